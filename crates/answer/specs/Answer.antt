@@ -1,0 +1,40 @@
+-- The number that document 01's table gives each refusal, and a check as what it gives. Definitions only.
+use Prim.Native.Nat.{ℕ}
+use Rattle.answer.specs.Given.{Given, refused, passed}
+use Rattle.answer.specs.declared.Refusal.{Refusal}
+use Rattle.answer.specs.declared.Refusal.the-variants as refusal
+use Rattle.answer.specs.declared.Check.{Check}
+use Rattle.answer.specs.declared.Check.the-variants as check
+
+-- document 01, "Calls and their numbers": the table, row by row
+abbrev pub numberOf : Refusal → ℕ
+-- frame isn't 186 long
+numberOf refusal.FrameLength = 1
+-- face store isn't 210 long
+numberOf refusal.FaceStoreLength = 2
+-- sphere store isn't 2,400 long
+numberOf refusal.SphereStoreLength = 3
+-- origin id above 11
+numberOf refusal.UnknownOrigin = 4
+-- a number is infinite or NaN
+numberOf refusal.NotFinite = 5
+-- a number is outside its range
+numberOf refusal.OutOfRange = 6
+-- open's frame hasn't 62 rows
+numberOf refusal.FrameRows = 7
+-- a triangle that must be built has no frame vertex
+numberOf refusal.NoVertex = 8
+-- the answer would have a number that isn't finite
+numberOf refusal.AnswerNotFinite = 9
+-- show: no such slot
+numberOf refusal.UnknownSlot = 10
+-- program: header missing, wrong or short
+numberOf refusal.Header = 11
+-- program: kind not 1 or 2, or kind 1 with non-zero origin byte
+numberOf refusal.RecordKind = 12
+-- program: input ends inside a record
+numberOf refusal.CutOff = 13
+
+abbrev pub givenCheck : Check → Given (Unit {0})
+givenCheck check.Passed = passed
+givenCheck (check.Refused n) = refused (numberOf n)

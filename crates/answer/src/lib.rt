@@ -1,0 +1,71 @@
+// Refusals and their numbers, and the checks of one number (document 01, "Calls and their numbers").
+ghost use mathlib.Core.Path.{_≡_};
+ghost use Rattle.answer.specs.Answer.{numberOf, givenCheck};
+ghost use Rattle.answer.specs.Number.{isFinite, checkNumber};
+
+// One variant for each number of document 01's table, in its order.
+pub enum Refusal {
+    FrameLength,
+    FaceStoreLength,
+    SphereStoreLength,
+    UnknownOrigin,
+    NotFinite,
+    OutOfRange,
+    FrameRows,
+    NoVertex,
+    AnswerNotFinite,
+    UnknownSlot,
+    Header,
+    RecordKind,
+    CutOff,
+}
+
+// The number of a refusal.
+pub fn number(r: Refusal) -> u8
+    ensures { λ n. ⌜ n ≡ numberOf r ⌝ }
+{
+    match r {
+        Refusal::FrameLength => 1,
+        Refusal::FaceStoreLength => 2,
+        Refusal::SphereStoreLength => 3,
+        Refusal::UnknownOrigin => 4,
+        Refusal::NotFinite => 5,
+        Refusal::OutOfRange => 6,
+        Refusal::FrameRows => 7,
+        Refusal::NoVertex => 8,
+        Refusal::AnswerNotFinite => 9,
+        Refusal::UnknownSlot => 10,
+        Refusal::Header => 11,
+        Refusal::RecordKind => 12,
+        Refusal::CutOff => 13,
+    }
+}
+
+// What a check of arguments comes to.
+pub enum Check {
+    Passed,
+    Refused(Refusal),
+}
+
+// Neither infinite nor a NaN.
+pub fn is_finite(x: f64) -> bool
+    ensures { λ r. ⌜ r ≡ isFinite x ⌝ }
+{
+    let top = f64::from_bits(0x7ff0_0000_0000_0000);
+    if x < top { -top < x } else { false }
+}
+
+// 5, then 6: x is finite and lies in the range from -limit to limit, ends included.
+pub fn check_number(x: f64, limit: f64) -> Check
+    ensures { λ r. ⌜ givenCheck r ≡ checkNumber x limit ⌝ }
+{
+    if !is_finite(x) {
+        return Check::Refused(Refusal::NotFinite);
+    }
+    if -limit <= x {
+        if x <= limit {
+            return Check::Passed;
+        }
+    }
+    Check::Refused(Refusal::OutOfRange)
+}

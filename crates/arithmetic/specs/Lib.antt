@@ -1,0 +1,4 @@
+-- The arithmetic that every definition is written over, and the square root. Definitions only.
+pub mod Sqrt
+pub mod Arith
+pub mod Nearest

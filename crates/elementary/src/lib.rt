@@ -1,0 +1,3 @@
+// Document 01's elementary steps: what the library functions mean on f64. Each is total and has no
+// requires.
+pub mod sine;

@@ -1,0 +1,4 @@
+pub struct SinCos {
+    pub sin: f64,
+    pub cos: f64,
+}
