@@ -1,0 +1,2 @@
+-- Laws on what a call gives, for the proofs of every call.
+pub mod Given
