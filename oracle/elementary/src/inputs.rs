@@ -1,0 +1,225 @@
+// The arguments that each function is asked at.
+
+use crate::generator::Generator;
+use std::f64::consts::{FRAC_PI_2, FRAC_PI_4, PI, TAU};
+
+// x moved by so many units in its last place, away from zero where steps is positive.
+fn moved(x: f64, steps: i64) -> f64 {
+    f64::from_bits((x.to_bits() as i64).wrapping_add(steps) as u64)
+}
+
+// x and its two neighbours on each side.
+fn near(x: f64) -> [f64; 5] {
+    [moved(x, -2), moved(x, -1), x, moved(x, 1), moved(x, 2)]
+}
+
+fn both_signs(list: &[f64]) -> Vec<f64> {
+    list.iter().flat_map(|x| [*x, -*x]).collect()
+}
+
+// Zeros, infinities, NaNs, the ends of the subnormals and of the normals, halves, and where f64 stops having
+// fractions and whole numbers; each with both signs.
+pub fn specials() -> Vec<f64> {
+    let two_52 = 4503599627370496.0;
+    let two_63 = 9223372036854775808.0;
+    let mut list = vec![0.0, f64::INFINITY, f64::NAN, f64::from_bits(0x7ff0000000000001), f64::from_bits(0x7fffffffffffffff)];
+    list.extend([f64::from_bits(1), f64::from_bits(2), f64::from_bits(0x000fffffffffffff)]);
+    list.extend([f64::MIN_POSITIVE, moved(f64::MIN_POSITIVE, 1), f64::MAX, moved(f64::MAX, -1)]);
+    list.extend([0.25, 0.49999999999999994, 0.5, moved(0.5, 1), 0.75, moved(1.0, -1), 1.0, moved(1.0, 1)]);
+    list.extend([1.5, moved(1.5, -1), moved(1.5, 1), 2.0, 2.5, moved(2.5, -1), moved(2.5, 1), 3.0, 3.5, 4.0]);
+    list.extend([two_52 / 2.0 - 0.5, two_52 / 2.0 + 0.5, two_52 - 1.0, two_52 - 0.5, two_52, two_52 + 1.0]);
+    list.extend([2.0 * two_52 - 1.0, 2.0 * two_52, 2.0 * two_52 + 2.0]);
+    list.extend([moved(two_63, -1), two_63, moved(two_63, 1), 2.0 * two_63, 1e300]);
+    both_signs(&list)
+}
+
+// For abs and max_zero.
+pub fn plain(g: &mut Generator) -> Vec<f64> {
+    let mut list = specials();
+    for _ in 0..300 {
+        list.push(g.any());
+    }
+    for _ in 0..60 {
+        list.push(g.subnormal());
+    }
+    list
+}
+
+// For floor and round: whole numbers, halves and their neighbours, at every size below 2^54.
+pub fn wholes(g: &mut Generator) -> Vec<f64> {
+    let mut list = specials();
+    for _ in 0..100 {
+        list.push(g.any());
+    }
+    for field in 1010..1080 {
+        for _ in 0..6 {
+            list.push(g.with_field(field, field + 1));
+        }
+    }
+    for _ in 0..60 {
+        let width = g.whole(1, 52);
+        let whole = g.whole(0, 1 << width) as f64 * (1.0 - 2.0 * g.whole(0, 2) as f64);
+        list.extend([moved(whole, -1), whole, moved(whole, 1)]);
+        let half = whole + 0.5;
+        list.extend([moved(half, -1), half, moved(half, 1)]);
+    }
+    list
+}
+
+// Whole numbers m whose root is nearly halfway between two f64. With t = 2q + 1 odd, of 54 bits, and t * t - d divisible
+// by 2^54 for a small d, the root of m = (t * t - d) / 2^54 lies just beside q + 1/2 in units of its last place.
+fn nearly_halfway() -> Vec<f64> {
+    let mut list = Vec::new();
+    for d in (-255i128..=257).step_by(8) {
+        // a root of d modulo 2^54, digit by digit
+        let mut s: i128 = 1;
+        for k in 3..54 {
+            if (s * s - d) % (1 << (k + 1)) != 0 {
+                s += 1 << (k - 1);
+            }
+        }
+        for root in [s, -s] {
+            let t = (1 << 53) + root.rem_euclid(1 << 53);
+            let m = (t * t - d) >> 54;
+            if m < 1 << 53 || m % 2 == 0 {
+                list.push(m as f64);
+            }
+        }
+    }
+    list
+}
+
+// For sqrt: every exponent, every width of a subnormal, squares and their neighbours, roots that are hard to round.
+pub fn roots(g: &mut Generator) -> Vec<f64> {
+    let mut list = specials();
+    list.extend(nearly_halfway());
+    for field in 1..2047 {
+        list.push(f64::from_bits(field << 52 | g.bits() >> 12));
+    }
+    for width in 0..52 {
+        for _ in 0..3 {
+            list.push(f64::from_bits(1 << width | g.bits() & ((1 << width) - 1)));
+        }
+    }
+    for _ in 0..250 {
+        // a root of at most 26 bits at any even power of two, so that its square is exact
+        let power = f64::from_bits((g.whole(523, 1503) as u64) << 52);
+        let root = g.whole(1, 1 << 26) as f64 * power;
+        list.extend([moved(root * root, -1), root * root, moved(root * root, 1)]);
+    }
+    for _ in 0..150 {
+        // near the square of a root of 53 bits, and of a number between two such roots
+        let root = g.with_field(1000, 1050).abs();
+        list.extend([root * root, moved(root, 1) * root]);
+    }
+    for _ in 0..100 {
+        list.push(g.any());
+    }
+    list
+}
+
+// For sin, cos and tan.
+pub fn angles(g: &mut Generator) -> Vec<f64> {
+    let mut list = specials();
+    for k in 1..=40 {
+        list.extend(both_signs(&near(k as f64 * FRAC_PI_2)));
+    }
+    for k in (1..=41).step_by(2) {
+        list.extend(both_signs(&near(k as f64 * FRAC_PI_4)));
+    }
+    for j in 0..24 {
+        list.extend(both_signs(&near(TAU * (1u64 << j) as f64)));
+    }
+    for _ in 0..150 {
+        let k = g.whole(41, 1 << 40) as f64;
+        list.extend([k * FRAC_PI_2, -(k * FRAC_PI_4)]);
+    }
+    for i in 0..800 {
+        list.push(-10.0 + 0.025 * (i as f64 + g.unit()));
+    }
+    for _ in 0..150 {
+        list.push(g.with_field(1040, 2047));
+        list.push(g.with_field(1, 1010));
+    }
+    for _ in 0..50 {
+        list.push(g.subnormal());
+        list.push(g.any());
+    }
+    list
+}
+
+// For core: 0 to 1, the small numbers in it, and outside.
+pub fn quotients(g: &mut Generator) -> Vec<f64> {
+    let mut list = specials();
+    list.extend(near(1.0));
+    for i in 0..500 {
+        list.push((i as f64 + g.unit()) / 500.0);
+    }
+    for _ in 0..250 {
+        list.push(g.with_field(950, 1023).abs());
+        list.push(g.with_field(1, 1023).abs());
+    }
+    for _ in 0..50 {
+        list.push(g.subnormal());
+        list.push(g.between(-100.0, 100.0));
+        list.push(g.any());
+    }
+    list
+}
+
+// For atan: about 1, large, small, and the middle densely.
+pub fn tangents(g: &mut Generator) -> Vec<f64> {
+    let mut list = specials();
+    for steps in -20..=20 {
+        list.extend(both_signs(&[moved(1.0, steps)]));
+    }
+    for i in 0..400 {
+        list.push(-4.0 + 0.02 * (i as f64 + g.unit()));
+    }
+    for _ in 0..200 {
+        list.push(g.with_field(980, 1023));
+        list.push(g.with_field(1023, 1090));
+        list.push(g.any());
+    }
+    for _ in 0..50 {
+        list.push(g.subnormal());
+        list.push(g.with_field(1500, 2047));
+    }
+    list
+}
+
+// For atan2: the pairs (y, x).
+pub fn points(g: &mut Generator) -> Vec<(f64, f64)> {
+    let few = [0.0, f64::from_bits(1), f64::MIN_POSITIVE, 0.5, 1.0, moved(1.0, 1), PI, 1e300, f64::MAX, f64::INFINITY, f64::NAN];
+    let few = both_signs(&few);
+    let mut list: Vec<(f64, f64)> = few.iter().flat_map(|y| few.iter().map(|x| (*y, *x))).collect();
+    for _ in 0..120 {
+        list.extend(level(g));
+    }
+    for _ in 0..600 {
+        list.push((g.between(-10.0, 10.0), g.between(-10.0, 10.0)));
+        list.push((g.any(), g.any()));
+    }
+    for _ in 0..100 {
+        // a quotient that underflows, to zero or to a subnormal
+        let small = g.with_field(1, 600);
+        let large = g.with_field(1550, 2047);
+        list.extend([(small, large), (large, small)]);
+        let field = g.whole(1100, 2040);
+        let large = g.with_field(field, field + 1);
+        let small = g.with_field(field - 1075, field - 1020);
+        list.extend([(small, large), (large, small)]);
+    }
+    for _ in 0..50 {
+        list.extend([(g.subnormal(), g.subnormal()), (g.subnormal(), g.any()), (g.any(), g.subnormal())]);
+        list.extend([(0.0 * g.between(-1.0, 1.0), g.any()), (g.any(), 0.0 * g.between(-1.0, 1.0))]);
+    }
+    list
+}
+
+// Pairs of equal size or neighbours, over all signs.
+fn level(g: &mut Generator) -> [(f64, f64); 5] {
+    let y = g.with_field(1, 2046);
+    let x = if g.whole(0, 2) == 0 { y } else { -y };
+    near(x).map(|x| (y, x))
+}
