@@ -17,20 +17,42 @@ fn both_signs(list: &[f64]) -> Vec<f64> {
     list.iter().flat_map(|x| [*x, -*x]).collect()
 }
 
-// Zeros, infinities, NaNs, the ends of the subnormals and of the normals, halves, and where f64 stops having
-// fractions and whole numbers; each with both signs.
-pub fn specials() -> Vec<f64> {
+// Zero, infinity, NaNs, and the ends of the subnormals and of the normals.
+fn ends() -> Vec<f64> {
+    let nans = [0x7ff8000000000000, 0x7ff0000000000001, 0x7fffffffffffffff];
+    let smallest = [0x0000000000000001, 0x0000000000000002, 0x000fffffffffffff];
+    let normal = [0x0010000000000000, 0x0010000000000001, 0x7fefffffffffffff];
+    let mut list = vec![0.0, f64::INFINITY, moved(f64::MAX, -1)];
+    list.extend(nans.map(f64::from_bits));
+    list.extend(smallest.map(f64::from_bits));
+    list.extend(normal.map(f64::from_bits));
+    list
+}
+
+// Small whole numbers, halves and their neighbours.
+fn small() -> Vec<f64> {
+    let mut list = vec![0.25, 0.49999999999999994, 0.5, moved(0.5, 1), 0.75];
+    list.extend([moved(1.0, -1), 1.0, moved(1.0, 1), 2.0, 3.0, 3.5, 4.0]);
+    list.extend([moved(1.5, -1), 1.5, moved(1.5, 1)]);
+    list.extend([moved(2.5, -1), 2.5, moved(2.5, 1)]);
+    list
+}
+
+// Where f64 stops having fractions, then every whole number; the ends of i64 and u64.
+fn large() -> Vec<f64> {
     let two_52 = 4503599627370496.0;
     let two_63 = 9223372036854775808.0;
-    let mut list = vec![0.0, f64::INFINITY, f64::NAN, f64::from_bits(0x7ff0000000000001), f64::from_bits(0x7fffffffffffffff)];
-    list.extend([f64::from_bits(1), f64::from_bits(2), f64::from_bits(0x000fffffffffffff)]);
-    list.extend([f64::MIN_POSITIVE, moved(f64::MIN_POSITIVE, 1), f64::MAX, moved(f64::MAX, -1)]);
-    list.extend([0.25, 0.49999999999999994, 0.5, moved(0.5, 1), 0.75, moved(1.0, -1), 1.0, moved(1.0, 1)]);
-    list.extend([1.5, moved(1.5, -1), moved(1.5, 1), 2.0, 2.5, moved(2.5, -1), moved(2.5, 1), 3.0, 3.5, 4.0]);
-    list.extend([two_52 / 2.0 - 0.5, two_52 / 2.0 + 0.5, two_52 - 1.0, two_52 - 0.5, two_52, two_52 + 1.0]);
+    let mut list = vec![two_52 / 2.0 - 0.5, two_52 / 2.0 + 0.5];
+    list.extend([two_52 - 1.0, two_52 - 0.5, two_52, two_52 + 1.0]);
     list.extend([2.0 * two_52 - 1.0, 2.0 * two_52, 2.0 * two_52 + 2.0]);
-    list.extend([moved(two_63, -1), two_63, moved(two_63, 1), 2.0 * two_63, 1e300]);
-    both_signs(&list)
+    list.extend([moved(two_63, -1), two_63, moved(two_63, 1)]);
+    list.extend([2.0 * two_63, 1e300]);
+    list
+}
+
+// The special values, each with both signs.
+pub fn specials() -> Vec<f64> {
+    both_signs(&[ends(), small(), large()].concat())
 }
 
 // For abs and max_zero.
@@ -190,9 +212,7 @@ pub fn tangents(g: &mut Generator) -> Vec<f64> {
 
 // For atan2: the pairs (y, x).
 pub fn points(g: &mut Generator) -> Vec<(f64, f64)> {
-    let few = [0.0, f64::from_bits(1), f64::MIN_POSITIVE, 0.5, 1.0, moved(1.0, 1), PI, 1e300, f64::MAX, f64::INFINITY, f64::NAN];
-    let few = both_signs(&few);
-    let mut list: Vec<(f64, f64)> = few.iter().flat_map(|y| few.iter().map(|x| (*y, *x))).collect();
+    let mut list = special_pairs();
     for _ in 0..120 {
         list.extend(level(g));
     }
@@ -201,20 +221,41 @@ pub fn points(g: &mut Generator) -> Vec<(f64, f64)> {
         list.push((g.any(), g.any()));
     }
     for _ in 0..100 {
-        // a quotient that underflows, to zero or to a subnormal
-        let small = g.with_field(1, 600);
-        let large = g.with_field(1550, 2047);
-        list.extend([(small, large), (large, small)]);
-        let field = g.whole(1100, 2040);
-        let large = g.with_field(field, field + 1);
-        let small = g.with_field(field - 1075, field - 1020);
-        list.extend([(small, large), (large, small)]);
+        list.extend(underflowing(g));
     }
     for _ in 0..50 {
-        list.extend([(g.subnormal(), g.subnormal()), (g.subnormal(), g.any()), (g.any(), g.subnormal())]);
-        list.extend([(0.0 * g.between(-1.0, 1.0), g.any()), (g.any(), 0.0 * g.between(-1.0, 1.0))]);
+        list.push((g.subnormal(), g.subnormal()));
+        list.push((g.subnormal(), g.any()));
+        list.push((g.any(), g.subnormal()));
+        list.push((0.0 * g.between(-1.0, 1.0), g.any()));
+        list.push((g.any(), 0.0 * g.between(-1.0, 1.0)));
     }
     list
+}
+
+// Zeros, infinities and NaNs in each place among them.
+fn special_pairs() -> Vec<(f64, f64)> {
+    let mut few = vec![0.0, f64::from_bits(1), f64::MIN_POSITIVE, 0.5, 1.0];
+    few.extend([moved(1.0, 1), PI, 1e300, f64::MAX, f64::INFINITY, f64::NAN]);
+    let few = both_signs(&few);
+    few.iter()
+        .flat_map(|y| few.iter().map(|x| (*y, *x)))
+        .collect()
+}
+
+// Pairs with a quotient that underflows: to zero, then to a subnormal or nearly.
+fn underflowing(g: &mut Generator) -> [(f64, f64); 4] {
+    let small = g.with_field(1, 600);
+    let large = g.with_field(1680, 2047);
+    let field = g.whole(1100, 2040);
+    let divisor = g.with_field(field, field + 1);
+    let divided = g.with_field(field - 1075, field - 1020);
+    [
+        (small, large),
+        (large, small),
+        (divided, divisor),
+        (divisor, divided),
+    ]
 }
 
 // Pairs of equal size or neighbours, over all signs.

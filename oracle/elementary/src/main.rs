@@ -13,7 +13,11 @@ use std::io::Write;
 const NAN: u64 = 0x7ff8000000000000;
 
 fn record(list: &mut Vec<u8>, number: u8, first: u64, second: u64, answer: f64) {
-    let answer = if answer.is_nan() { NAN } else { answer.to_bits() };
+    let answer = if answer.is_nan() {
+        NAN
+    } else {
+        answer.to_bits()
+    };
     list.push(number);
     list.extend(first.to_be_bytes());
     list.extend(second.to_be_bytes());
@@ -53,5 +57,7 @@ fn main() {
         selftest::run();
         return;
     }
-    std::io::stdout().write_all(&answers()).expect("standard output takes the list");
+    std::io::stdout()
+        .write_all(&answers())
+        .expect("standard output takes the list");
 }

@@ -9,7 +9,13 @@ fn same(a: f64, b: f64) -> bool {
 }
 
 fn exact(name: &str, x: f64, ours: f64, library: f64) {
-    assert!(same(ours, library), "{name} at {:016x}: {:016x}, the library's {:016x}", x.to_bits(), ours.to_bits(), library.to_bits());
+    assert!(
+        same(ours, library),
+        "{name} at {:016x}: {:016x}, the library's {:016x}",
+        x.to_bits(),
+        ours.to_bits(),
+        library.to_bits()
+    );
 }
 
 fn one(x: f64) {
@@ -18,12 +24,20 @@ fn one(x: f64) {
     exact("round", x, steps::round(x), x.round());
     exact("abs", x, steps::abs(x), x.abs());
     // the library's max may give either zero of two
-    let most = if x == 0.0 || x.is_nan() { 0.0 } else { x.max(0.0) };
+    let most = if x == 0.0 || x.is_nan() {
+        0.0
+    } else {
+        x.max(0.0)
+    };
     exact("max_zero", x, steps::max_zero(x), most);
 }
 
 fn exact_ones(g: &mut Generator) {
-    for x in inputs::specials().into_iter().chain(inputs::roots(g)).chain(inputs::wholes(g)) {
+    for x in inputs::specials()
+        .into_iter()
+        .chain(inputs::roots(g))
+        .chain(inputs::wholes(g))
+    {
         one(x);
     }
     for _ in 0..2_000_000 {
@@ -34,7 +48,10 @@ fn exact_ones(g: &mut Generator) {
 }
 
 fn close(name: &str, x: f64, ours: f64, library: f64, most: f64) {
-    assert!((ours - library).abs() <= most, "{name} at {x:e}: {ours:e}, the library's {library:e}");
+    assert!(
+        (ours - library).abs() <= most,
+        "{name} at {x:e}: {ours:e}, the library's {library:e}"
+    );
 }
 
 // The steps are not the library's, so these say only that no step was taken down wrongly.
@@ -43,7 +60,13 @@ fn close_ones(g: &mut Generator) {
         let x = g.between(-10.0, 10.0);
         close("sin", x, steps::sin(x), x.sin(), 2e-15);
         close("cos", x, steps::cos(x), x.cos(), 2e-15);
-        close("tan", x, steps::tan(x), x.tan(), 1e-14 * (1.0 + x.tan() * x.tan()));
+        close(
+            "tan",
+            x,
+            steps::tan(x),
+            x.tan(),
+            1e-14 * (1.0 + x.tan() * x.tan()),
+        );
         close("atan", x, steps::atan(x), x.atan(), 1e-15);
         let y = g.between(-10.0, 10.0);
         close("atan2", x, steps::atan2(y, x), y.atan2(x), 2e-15);
@@ -54,9 +77,19 @@ fn close_ones(g: &mut Generator) {
 
 fn marked_points() {
     exact("sqrt", 4.0, steps::sqrt(4.0), 2.0);
-    exact("sqrt", 2.0, steps::sqrt(2.0), f64::from_bits(0x3ff6a09e667f3bcd));
+    exact(
+        "sqrt",
+        2.0,
+        steps::sqrt(2.0),
+        f64::from_bits(0x3ff6a09e667f3bcd),
+    );
     exact("sqrt", -0.0, steps::sqrt(-0.0), -0.0);
-    exact("sqrt", f64::from_bits(1), steps::sqrt(f64::from_bits(1)), f64::from_bits((1023 - 537) << 52));
+    exact(
+        "sqrt",
+        f64::from_bits(1),
+        steps::sqrt(f64::from_bits(1)),
+        f64::from_bits((1023 - 537) << 52),
+    );
     exact("floor", -0.5, steps::floor(-0.5), -1.0);
     exact("round", 0.5, steps::round(0.5), 1.0);
     exact("round", -2.5, steps::round(-2.5), -3.0);

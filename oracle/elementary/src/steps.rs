@@ -79,7 +79,11 @@ pub fn floor(x: f64) -> f64 {
         return x;
     }
     let toward_zero = x as i64;
-    let below = if toward_zero as f64 > x { toward_zero - 1 } else { toward_zero };
+    let below = if toward_zero as f64 > x {
+        toward_zero - 1
+    } else {
+        toward_zero
+    };
     below as f64
 }
 
@@ -90,13 +94,25 @@ pub fn round(x: f64) -> f64 {
     }
     let size = abs(x);
     let whole = size as i64;
-    let rounded = if size - whole as f64 >= 0.5 { whole + 1 } else { whole };
-    if is_negative(x) { -(rounded as f64) } else { rounded as f64 }
+    let rounded = if size - whole as f64 >= 0.5 {
+        whole + 1
+    } else {
+        whole
+    };
+    if is_negative(x) {
+        -(rounded as f64)
+    } else {
+        rounded as f64
+    }
 }
 
 // "`max(0.0)` gives the value if above 0, else +0 (also for NaN)."
 pub fn max_zero(x: f64) -> f64 {
-    if x > 0.0 { x } else { 0.0 }
+    if x > 0.0 {
+        x
+    } else {
+        0.0
+    }
 }
 
 // "c(k) = 1/k! in one division". 17! is below 2^53, so the float of k! is exact.
@@ -121,7 +137,10 @@ pub struct SinCos {
 // n is a whole number, so its float is never −0.
 pub fn sin_cos(x: f64) -> SinCos {
     if !x.is_finite() {
-        return SinCos { sin: f64::NAN, cos: f64::NAN };
+        return SinCos {
+            sin: f64::NAN,
+            cos: f64::NAN,
+        };
     }
     let y = x % TAU;
     let n = round(y * FRAC_2_PI) as i64;
@@ -167,7 +186,9 @@ pub fn core(t: f64) -> f64 {
     }
     let z = t * t;
     let mut p = 1.0 / 25.0;
-    for k in [23.0, 21.0, 19.0, 17.0, 15.0, 13.0, 11.0, 9.0, 7.0, 5.0, 3.0, 1.0] {
+    for k in [
+        23.0, 21.0, 19.0, 17.0, 15.0, 13.0, 11.0, 9.0, 7.0, 5.0, 3.0, 1.0,
+    ] {
         p = 1.0 / k - z * p;
     }
     4.0 * (t * p)
@@ -179,8 +200,16 @@ pub fn atan(x: f64) -> f64 {
         return f64::NAN;
     }
     let a = abs(x);
-    let size = if a <= 1.0 { core(a) } else { FRAC_PI_2 - core(1.0 / a) };
-    if is_negative(x) { -size } else { size }
+    let size = if a <= 1.0 {
+        core(a)
+    } else {
+        FRAC_PI_2 - core(1.0 / a)
+    };
+    if is_negative(x) {
+        -size
+    } else {
+        size
+    }
 }
 
 // "Atan2(y, x): NaN unless both finite. Base is +0 if both are zero, Core(abs y/abs x) if
@@ -197,5 +226,9 @@ pub fn atan2(y: f64, x: f64) -> f64 {
         FRAC_PI_2 - core(abs(x) / abs(y))
     };
     let size = if is_negative(x) { PI - base } else { base };
-    if is_negative(y) { -size } else { size }
+    if is_negative(y) {
+        -size
+    } else {
+        size
+    }
 }
