@@ -1,0 +1,20 @@
+-- Document 01's marked points hold, each by computation: the roots in lib.Ieee's own arithmetic, the others in `quick`. Assumes nothing.
+use mathlib.Core.Path.{_≡_, refl}
+use lib.Ieee.{binary64, ofBits}
+use Rattle.arithmetic.specs.Sqrt.{sqrt}
+use Rattle.arithmetic.proofs.Quick.{quick, in-ieee}
+use Rattle.elementary.specs.Whole.{floor, round}
+use Rattle.known_points.specs.Marked.{Marked}
+
+pub marked : Marked
+unfolding sqrt floor round ofBits quick
+marked =
+    record {
+      root-of-4 = refl;
+      root-of-2 = refl;
+      root-of-minus-0 = refl;
+      root-of-least = refl;
+      floor-of-minus-half = in-ieee (λ A. floor A (ofBits binary64 0xbfe0_0000_0000_0000) ≡ ofBits binary64 0xbff0_0000_0000_0000) refl;
+      round-of-half = in-ieee (λ A. round A (ofBits binary64 0x3fe0_0000_0000_0000) ≡ ofBits binary64 0x3ff0_0000_0000_0000) refl;
+      round-of-minus-5-halves = in-ieee (λ A. round A (ofBits binary64 0xc004_0000_0000_0000) ≡ ofBits binary64 0xc008_0000_0000_0000) refl;
+    }

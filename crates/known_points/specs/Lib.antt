@@ -1,0 +1,2 @@
+-- Document 01, "Known points": what is claimed. Definitions only.
+pub mod Marked

@@ -1,0 +1,22 @@
+-- Document 01, "Known points": those marked (M), as one claim, in its order. A value is written by its bits, with the number beside it. Definitions only.
+use mathlib.Core.Path.{_≡_}
+use lib.Ieee.{binary64, ofBits}
+use Rattle.arithmetic.specs.Arith.{ieee}
+use Rattle.arithmetic.specs.Sqrt.{sqrt}
+use Rattle.elementary.specs.Whole.{floor, round}
+
+pub record Marked : Type 0 where
+  -- "sqrt 4 is 2"
+  pub root-of-4 : sqrt (ofBits binary64 0x4010_0000_0000_0000) ≡ ofBits binary64 0x4000_0000_0000_0000
+  -- "of 2 has bits 3ff6a09e667f3bcd"
+  pub root-of-2 : sqrt (ofBits binary64 0x4000_0000_0000_0000) ≡ ofBits binary64 0x3ff6_a09e_667f_3bcd
+  -- "of −0 is −0"
+  pub root-of-minus-0 : sqrt (ofBits binary64 0x8000_0000_0000_0000) ≡ ofBits binary64 0x8000_0000_0000_0000
+  -- "of 2^−1074 is 2^−537"
+  pub root-of-least : sqrt (ofBits binary64 0x0000_0000_0000_0001) ≡ ofBits binary64 0x1e60_0000_0000_0000
+  -- "floor −0.5 is −1"
+  pub floor-of-minus-half : floor ieee (ofBits binary64 0xbfe0_0000_0000_0000) ≡ ofBits binary64 0xbff0_0000_0000_0000
+  -- "round 0.5 is 1"
+  pub round-of-half : round ieee (ofBits binary64 0x3fe0_0000_0000_0000) ≡ ofBits binary64 0x3ff0_0000_0000_0000
+  -- "−2.5 is −3"
+  pub round-of-minus-5-halves : round ieee (ofBits binary64 0xc004_0000_0000_0000) ≡ ofBits binary64 0xc008_0000_0000_0000
