@@ -1,2 +1,11 @@
--- Laws about the definitions of `specs/`.
+-- Laws about the values of a format, the operations on them and the definitions of `specs/`, for every crate to cite.
+pub mod Units
+pub mod Compared
+pub mod Rounding
+pub mod Remainder
+pub mod Product
+pub mod Root
+pub mod Count
+pub mod Width
+pub mod Ieee754
 pub mod Quick

@@ -4,3 +4,4 @@ pub mod Signs
 pub mod Whole
 pub mod Sine
 pub mod Arctangent
+pub mod Values

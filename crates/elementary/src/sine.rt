@@ -1,4 +1,241 @@
+// Sine, cosine and tangent (document 01, "Elementary steps").
+ghost use mathlib.Core.Path.{_≡_};
+ghost use mathlib.Core.Bool.{true};
+ghost use lib.Ieee.{binary64, mul, rem};
+ghost use Rattle.answer.specs.Number.{isFinite};
+ghost use Rattle.arithmetic.specs.Arith.{ieee};
+ghost use Rattle.elementary.specs.Constants.{TAU, FRAC-2-PI, sineFirst, sineRest, cosineFirst, cosineRest};
+ghost use Rattle.elementary.specs.Whole.{roundℤ};
+ghost use Rattle.elementary.specs.Sine.{series, modulo4, wholeFloat, sinCosReduced, sinCos, sin, cos, tan};
+
+const TAU: f64 = 6.283185307179586;
+
+const FRAC_2_PI: f64 = 0.6366197723675814;
+
+const FRAC_PI_2: f64 = 1.5707963267948966;
+// Nearly what FRAC_PI_2 leaves out of π / 2.
+const PI_2_REST: f64 = 6.123233995736766e-17;
+
+// c(k) = 1/k!, each in one division.
+const C0: f64 = 1.0 / 1.0;
+
+const C1: f64 = 1.0 / 1.0;
+
+const C2: f64 = 1.0 / 2.0;
+
+const C3: f64 = 1.0 / 6.0;
+
+const C4: f64 = 1.0 / 24.0;
+
+const C5: f64 = 1.0 / 120.0;
+
+const C6: f64 = 1.0 / 720.0;
+
+const C7: f64 = 1.0 / 5040.0;
+
+const C8: f64 = 1.0 / 40320.0;
+
+const C9: f64 = 1.0 / 362880.0;
+
+const C10: f64 = 1.0 / 3628800.0;
+
+const C11: f64 = 1.0 / 39916800.0;
+
+const C12: f64 = 1.0 / 479001600.0;
+
+const C13: f64 = 1.0 / 6227020800.0;
+
+const C14: f64 = 1.0 / 87178291200.0;
+
+const C15: f64 = 1.0 / 1307674368000.0;
+
+const C16: f64 = 1.0 / 20922789888000.0;
+
+const C17: f64 = 1.0 / 355687428096000.0;
+
 pub struct SinCos {
     pub sin: f64,
     pub cos: f64,
+}
+
+// x mod one turn. A value within a turn is its own, which spares the C library's fmod.
+fn within_turn(x: f64) -> f64
+    ensures { λ r. ⌜ r ≡ rem binary64 x TAU ⌝ }
+{
+    if crate::signs::abs(x) < TAU {
+        x
+    } else {
+        x % TAU
+    }
+}
+
+// What is left of an angle within a turn, the whole number of quarter turns nearest to it, and that
+// number mod 4.
+struct Reduced {
+    pub y: f64,
+    pub n: f64,
+    pub quarter: u64,
+}
+
+// n's sign comes by 0.0 - w, not -w: a whole number has no -0.
+fn reduction(x: f64) -> Reduced
+    requires { ⌜ isFinite x ≡ true ⌝ }
+    ensures { λ r. ⌜ (r .y ≡ rem binary64 x TAU)
+        × (r .n ≡ wholeFloat ieee (roundℤ (mul binary64 (r .y) FRAC-2-PI)))
+        × (r .quarter ≡ modulo4 (roundℤ (mul binary64 (r .y) FRAC-2-PI))) ⌝ }
+{
+    let y = within_turn(x);
+    let q = y * FRAC_2_PI;
+    let k = crate::whole::nearest_size(crate::signs::abs(q));
+    let w = k as f64;
+    if q < 0.0 {
+        Reduced {
+            y: y,
+            n: 0.0 - w,
+            quarter: (4 - k % 4) % 4,
+        }
+    } else {
+        Reduced {
+            y: y,
+            n: w,
+            quarter: k % 4,
+        }
+    }
+}
+
+// S = r·p, where z is r·r.
+fn sine_series(r: f64, z: f64) -> f64
+    ensures { λ s. ⌜ s ≡ mul binary64 r (series ieee z sineFirst sineRest) ⌝ }
+{
+    let p = C15 - z * C17;
+    let p = C13 - z * p;
+    let p = C11 - z * p;
+    let p = C9 - z * p;
+    let p = C7 - z * p;
+    let p = C5 - z * p;
+    let p = C3 - z * p;
+    let p = C1 - z * p;
+    r * p
+}
+
+// C = p, where z is r·r.
+fn cosine_series(z: f64) -> f64
+    ensures { λ c. ⌜ c ≡ series ieee z cosineFirst cosineRest ⌝ }
+{
+    let p = C14 - z * C16;
+    let p = C12 - z * p;
+    let p = C10 - z * p;
+    let p = C8 - z * p;
+    let p = C6 - z * p;
+    let p = C4 - z * p;
+    let p = C2 - z * p;
+    let p = C0 - z * p;
+    p
+}
+
+// What is left of the argument after n quarter turns.
+struct Angle {
+    r: f64,
+    quarter: u64,
+}
+
+fn to_quarter(x: f64) -> Angle
+    requires { ⌜ isFinite x ≡ true ⌝ }
+    ensures { λ t. ⌜ sinCosReduced ieee (t .quarter) (t .r) ≡ sinCos ieee x ⌝ }
+{
+    let t = reduction(x);
+    let r = (t.y - t.n * FRAC_PI_2) - t.n * PI_2_REST;
+    Angle {
+        r,
+        quarter: t.quarter,
+    }
+}
+
+// The sine after k quarter turns and r: only the series that it needs.
+fn sin_at(k: u64, r: f64) -> f64
+    ensures { λ v. ⌜ v ≡ sinCosReduced ieee k r .sin ⌝ }
+{
+    let z = r * r;
+    if k == 0 {
+        sine_series(r, z)
+    } else if k == 1 {
+        cosine_series(z)
+    } else if k == 2 {
+        -sine_series(r, z)
+    } else {
+        -cosine_series(z)
+    }
+}
+
+// The cosine after k quarter turns and r.
+fn cos_at(k: u64, r: f64) -> f64
+    ensures { λ v. ⌜ v ≡ sinCosReduced ieee k r .cos ⌝ }
+{
+    let z = r * r;
+    if k == 0 {
+        cosine_series(z)
+    } else if k == 1 {
+        -sine_series(r, z)
+    } else if k == 2 {
+        -cosine_series(z)
+    } else {
+        sine_series(r, z)
+    }
+}
+
+// The pair after k quarter turns and r.
+fn sin_cos_at(k: u64, r: f64) -> SinCos
+    ensures { λ p. ⌜ p ≡ sinCosReduced ieee k r ⌝ }
+{
+    let z = r * r;
+    let s = sine_series(r, z);
+    let c = cosine_series(z);
+    if k == 0 {
+        SinCos { sin: s, cos: c }
+    } else if k == 1 {
+        SinCos { sin: c, cos: -s }
+    } else if k == 2 {
+        SinCos { sin: -s, cos: -c }
+    } else {
+        SinCos { sin: -c, cos: s }
+    }
+}
+
+pub fn sin(x: f64) -> f64
+    ensures { λ r. ⌜ r ≡ sin ieee x ⌝ }
+{
+    if !answer::is_finite(x) {
+        return 0.0 / 0.0;
+    }
+    let t = to_quarter(x);
+    sin_at(t.quarter, t.r)
+}
+
+pub fn cos(x: f64) -> f64
+    ensures { λ r. ⌜ r ≡ cos ieee x ⌝ }
+{
+    if !answer::is_finite(x) {
+        return 0.0 / 0.0;
+    }
+    let t = to_quarter(x);
+    cos_at(t.quarter, t.r)
+}
+
+// Sine and cosine from one reduction.
+pub fn sin_cos(x: f64) -> SinCos
+    ensures { λ r. ⌜ r ≡ sinCos ieee x ⌝ }
+{
+    if !answer::is_finite(x) {
+        let nan = 0.0 / 0.0;
+        return SinCos { sin: nan, cos: nan };
+    }
+    let t = to_quarter(x);
+    sin_cos_at(t.quarter, t.r)
+}
+
+pub fn tan(x: f64) -> f64
+    ensures { λ r. ⌜ r ≡ tan ieee x ⌝ }
+{
+    let p = sin_cos(x);
+    p.sin / p.cos
 }

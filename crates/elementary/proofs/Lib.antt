@@ -1,0 +1,11 @@
+-- Laws behind the proofs of the functions.
+pub mod SignBit
+pub mod Fraction
+pub mod Turn
+pub mod Mask
+pub mod Lead
+pub mod Round
+pub mod RootBits
+pub mod Quarters
+pub mod Angles
+pub mod Values

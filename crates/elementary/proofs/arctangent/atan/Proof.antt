@@ -1,0 +1,7 @@
+-- `atan` meets its contract. Assumes nothing.
+use Rattle.elementary.proofs.Angles.{atan-is}
+use Rattle.elementary.proofs.arctangent.atan.Statement.{statement}
+use Rattle.elementary.proofs.arctangent.atan.Tie as tie
+
+pub atan-spec : {M : Type 1} → statement M
+atan-spec = tie.close (tie.spec (λ c κs. tt) (λ c κs. tt) (λ c κs. tt) (λ c κs. tt) (λ c. rw (c .with-sign .ensures, c .before .atan-size .ensures, c .before .before .abs .ensures, c .before .before .before .negative .ensures) (atan-is _)))

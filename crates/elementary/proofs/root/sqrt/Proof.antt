@@ -1,0 +1,95 @@
+-- `sqrt` meets its contract. Assumes nothing.
+use borrow.Author.Needs.{needs}
+use mathlib.Core.Path.{_≡_, sym, ap, _∙_, subst}
+use Prim.Native.Nat.{_^_, _<_}
+use native.Mathlib.Omega.{arith}
+use lib.Dec.{T}
+use lib.Ieee.{binary64, fits, ofBits, toBits}
+use lib.Ieee.Bits.{ofBits-toBits, toBits-lt, ofBits-fits}
+use Rattle.arithmetic.specs.Sqrt.{sqrt}
+use Rattle.arithmetic.proofs.Width.{scaled-half}
+use Rattle.elementary.proofs.RootBits.{at-nan, number, zero-by-zero, at-zero, at-minus-zero, at-top, below-zero, made-lt, made-number, made-root}
+use Rattle.elementary.proofs.root.sqrt.Statement.{statement}
+use Rattle.elementary.proofs.root.sqrt.Tie as tie
+
+held : (c : tie.Start) → T (fits binary64 (c .args .x))
+held c = subst T (sym (c .good .0 .1)) tt
+
+back : (c : tie.Start) → ofBits binary64 (toBits binary64 (c .args .x)) ≡ c .args .x
+back c = ofBits-toBits binary64 (c .args .x) (held c)
+
+returns : tie.Need-returns
+returns c = at-nan (c .before .args .x) (c .if1 .taken)
+
+float-to-bits-b : tie.Need-float-to-bits-b
+float-to-bits-b c = number (c .before .args .x) (c .if1 .left)
+
+returns-2 : tie.Need-returns-2
+returns-2 c =
+    let e = sym (back (c .before .before .before)) ∙ ap (ofBits binary64) (c .if3 .taken) in
+    e ∙ at-minus-zero ∙ ap sqrt (sym e)
+
+returns-3 : tie.Need-returns-3
+returns-3 c =
+    let s = c .before .before .before in
+    let n = c .if3 .left in
+    let b = toBits binary64 (s .args .x) in
+    let l : b < 2 ^ 64 = toBits-lt binary64 (s .args .x) (held s) in
+    zero-by-zero ∙ below-zero b (omega arith) l ∙ ap sqrt (back s)
+
+returns-4 : tie.Need-returns-4
+returns-4 c =
+    let e = sym (back (c .before .before .before)) ∙ ap (ofBits binary64) (c .if4 .taken) in
+    e ∙ at-zero ∙ ap sqrt (sym e)
+
+returns-5 : tie.Need-returns-5
+returns-5 c =
+    let s = c .before .before .before .before in
+    sym (back s) ∙ at-top (toBits binary64 (s .args .x)) (c .if5 .taken) (c .before .before .if2 .left) ∙ ap sqrt (back s)
+
+nearest-root-requires : tie.Need-nearest-root-requires
+nearest-root-requires c κs =
+    let w = c .before .before .widened in
+    omega (arith, scaled-half (w .result .a) (w .result .g) (w .ensures .0) (w .ensures .1))
+
+add-result-2 : tie.Need-add-result-2
+add-result-2 c =
+    let w = c .before .before .before .before .widened in
+    let q = c .before .nearest-root in
+    record { fits = made-lt (w .result .a) (w .result .g) (q .result) (w .ensures .0) (w .ensures .1) (w .ensures .2) (q .ensures) }
+
+float-from-bits-result : tie.Need-float-from-bits-result
+float-from-bits-result c =
+    let w = c .before .before .before .before .widened in
+    let q = c .before .nearest-root in
+    made-number (w .result .a) (w .result .g) (q .result) (w .ensures .0) (w .ensures .1) (w .ensures .2) (q .ensures)
+
+returns-6 : tie.Need-returns-6
+returns-6 c =
+    let w = c .before .before .before .before .widened in
+    let q = c .before .nearest-root in
+    let p = c .before .before .before .before .before .split in
+    let s = c .before .before .before .before .before .before .before .before .before .before in
+    let b = toBits binary64 (s .args .x) in
+    made-root (w .result .a) (w .result .g) (q .result) (w .ensures .0) (w .ensures .1) (w .ensures .2) (q .ensures)
+    (ofBits binary64 b) (p .result .m) (p .result .h) (ofBits-fits binary64 b) (p .ensures .3) (w .ensures .3)
+    ∙ ap sqrt (back s)
+
+pub sqrt-spec : {M : Type 1} → statement M
+sqrt-spec =
+    tie.close
+    (tie.spec
+    returns
+    float-to-bits-b
+    returns-2
+    returns-3
+    returns-4
+    returns-5
+    (λ c κs. search needs)
+    (λ c κs. search needs)
+    (λ c. search needs)
+    nearest-root-requires
+    (λ c. search needs)
+    add-result-2
+    float-from-bits-result
+    returns-6)

@@ -1,0 +1,10 @@
+use mathlib.Core.Path.{refl}
+use lib.Ieee.{ofBits}
+use Rattle.elementary.specs.Constants.{cosineFirst, cosineRest}
+use Rattle.elementary.specs.Sine.{series}
+use Rattle.elementary.proofs.sine.cosine_series.Statement.{statement}
+use Rattle.elementary.proofs.sine.cosine_series.Tie as tie
+
+pub cosine-series-spec : {M : Type 1} → statement M
+unfolding series cosineFirst cosineRest ofBits
+cosine-series-spec = tie.close (tie.spec (λ c. refl))

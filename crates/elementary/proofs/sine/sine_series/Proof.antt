@@ -1,0 +1,10 @@
+use mathlib.Core.Path.{refl}
+use lib.Ieee.{ofBits}
+use Rattle.elementary.specs.Constants.{sineFirst, sineRest}
+use Rattle.elementary.specs.Sine.{series}
+use Rattle.elementary.proofs.sine.sine_series.Statement.{statement}
+use Rattle.elementary.proofs.sine.sine_series.Tie as tie
+
+pub sine-series-spec : {M : Type 1} → statement M
+unfolding series sineFirst sineRest ofBits
+sine-series-spec = tie.close (tie.spec (λ c. refl))

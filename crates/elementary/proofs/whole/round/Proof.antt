@@ -1,0 +1,86 @@
+-- `round` meets its contract: a value with no fraction is its own, and any other's is made from the nearest size and its sign. Assumes nothing.
+use mathlib.Core.Path.{_≡_, sym, ap, _∙_, subst}
+use Prim.Native.Nat.{_*_, _^_, _≤_}
+use native.Mathlib.Omega.{arith}
+use borrow.Author.Needs.{needs}
+use mathlib.Core.Bool.{true, false}
+use lib.Dec.{T, le→leb}
+use lib.Ieee.{binary64, lt, ofInt, ofBits, inFloat}
+use lib.Ieee.{round as rounded}
+use lib.Ieee.Positive.{num, den, den-pos}
+use Rattle.arithmetic.proofs.Rounding.{neg-round}
+use Rattle.elementary.specs.Whole.{roundSize}
+use Rattle.elementary.proofs.SignBit.{abs-positive}
+use Rattle.elementary.proofs.Fraction.{2^52, Below, below, was-less, same-size, Fraction, large-whole, equal, unequal, sign-is, round-back, round-whole, round-part}
+use Rattle.elementary.proofs.whole.round.Statement.{statement}
+use Rattle.elementary.proofs.whole.round.Tie as tie
+
+returns : tie.Need-returns
+unfolding ofBits
+returns c =
+    let x = c .before .before .args .x in
+    round-whole x (large-whole x (c .before .abs .result) (subst T (sym (c .before .before .good .0 .1)) tt) (c .before .abs .ensures) (c .if1 .taken))
+
+small : (c : tie.Else1) → Below (c .before .before .args .x) (c .before .abs .result)
+unfolding ofBits
+small c = below (c .before .before .args .x) (c .before .abs .result) (c .before .abs .ensures) (c .if1 .left)
+
+nearest-size-requires : tie.Need-nearest-size-requires
+unfolding ofBits
+nearest-size-requires c κs = (abs-positive (c .before .before .args .x) (c .before .abs .result) (c .before .abs .ensures), was-less (lt (c .before .abs .result) 2^52) (c .if1 .left))
+
+nearest : (c : tie.After-nearest-size) → let x = c .before .before .before .args .x in c .nearest-size .result ≡ roundSize (num x) (den x)
+nearest c = c .nearest-size .ensures .0 ∙ same-size (c .before .before .before .args .x) (c .before .before .abs .result) (c .before .before .abs .ensures)
+
+nearest-le : (c : tie.After-nearest-size) → c .nearest-size .result ≤ 2 ^ 53
+nearest-le c = omega (arith, c .nearest-size .ensures .1)
+
+int-to-float-y : tie.Need-int-to-float-y
+unfolding inFloat
+int-to-float-y c = le→leb (c .before .nearest-size .result) (2 ^ 53) (nearest-le (c .before))
+
+returns-2 : tie.Need-returns-2
+returns-2 c =
+    let b = c .before .before in
+    let x = b .before .before .before .args .x in
+    round-whole x (equal x (b .before .before .abs .result) (b .nearest-size .result) (small (b .before)) (nearest-le b) (c .if2 .taken))
+
+fraction : (c : tie.Else2) → Fraction (c .before .before .before .before .before .args .x)
+fraction c =
+    let b = c .before .before in
+    let x = b .before .before .before .args .x in
+    unequal x (b .before .before .abs .result) (b .nearest-size .result) (small (b .before)) (nearest-le b) (c .if2 .left)
+    (λ z. ap (λ k. k * den x) (nearest b) ∙ round-back (num x) (den x) (den-pos x) z)
+
+returns-3 : tie.Need-returns-3
+unfolding ofInt
+returns-3 c =
+    let e = c .before in
+    let b = e .before .before in
+    let x = b .before .before .before .args .x in
+    neg-round binary64 false (b .nearest-size .result) 1
+    ∙ ap (λ n. rounded binary64 true n 1) (nearest b)
+    ∙ ap (λ s. rounded binary64 s (roundSize (num x) (den x)) 1) (sym (sign-is x true (fraction e) (c .if3 .taken)))
+    ∙ round-part x (fraction e)
+
+returns-4 : tie.Need-returns-4
+unfolding ofInt
+returns-4 c =
+    let e = c .before in
+    let b = e .before .before in
+    let x = b .before .before .before .args .x in
+    ap (λ n. rounded binary64 false n 1) (nearest b)
+    ∙ ap (λ s. rounded binary64 s (roundSize (num x) (den x)) 1) (sym (sign-is x false (fraction e) (c .if3 .left)))
+    ∙ round-part x (fraction e)
+
+pub round-spec : {M : Type 1} → statement M
+round-spec =
+    tie.close
+    (tie.spec
+    (λ c κs. search needs)
+    returns
+    nearest-size-requires
+    int-to-float-y
+    returns-2
+    returns-3
+    returns-4)

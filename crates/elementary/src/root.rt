@@ -1,0 +1,116 @@
+// IEEE 754's square root, in 64-bit words: one binary digit of the root a round.
+ghost use mathlib.Core.Path.{_≡_};
+ghost use mathlib.Core.Bool.{false, cond};
+ghost use Prim.Native.Nat.{_-_, _*_, _^_, _≤_, _<_};
+ghost use lib.Dec.{leb};
+ghost use lib.Ieee.{binary64, ofBits};
+ghost use lib.Ieee.Exact.{HasValue};
+ghost use Rattle.arithmetic.specs.Sqrt.{nearestRoot, sqrt};
+
+// A value above zero as m * 2^h of the smallest ones, 2^-1074.
+struct Parts {
+    m: u64,
+    h: u64,
+}
+
+fn split(b: u64) -> Parts
+    requires { ⌜ (0 < b) × (b < 2047 * 2 ^ 52) ⌝ }
+    ensures { λ r. ⌜ (0 < r .m) × (r .m < 2 ^ 53) × (r .h ≤ 2045) × HasValue (ofBits binary64 b) false (r .m * 2 ^ r .h) (2 ^ 1074) ⌝ }
+{
+    let e = b >> 52;
+    let t = b % 0x10_0000_0000_0000;
+    // a subnormal has no leading digit, and the exponent of the smallest normal ones
+    if e == 0 {
+        return Parts { m: t, h: 0 };
+    }
+    Parts {
+        m: 0x10_0000_0000_0000 + t,
+        h: e - 1,
+    }
+}
+
+// The same value as a * 2^g, in units of 2^-1126, where a has the full width of 53 digits.
+struct Wide {
+    a: u64,
+    g: u64,
+}
+
+fn widened(m: u64, h: u64) -> Wide
+    requires { ⌜ (0 < m) × (m < 2 ^ 53) × (h ≤ 2045) ⌝ }
+    ensures { λ r. ⌜ (2 ^ 52 ≤ r .a) × (r .a < 2 ^ 53) × (r .g ≤ 2097) × (r .a * 2 ^ r .g ≡ m * 2 ^ h * 2 ^ 52) ⌝ }
+{
+    let z = (u64::leading_zeros(m) as u64) - 11;
+    Wide {
+        a: m << z,
+        g: h + 52 - z,
+    }
+}
+
+// y - t, or y where t is above it. The sign bit of the difference makes a mask: no branch.
+fn reduced(y: u64, t: u64) -> u64
+    requires { ⌜ (y < 2 ^ 63) × (t < 2 ^ 63) ⌝ }
+    ensures { λ r. ⌜ r ≡ cond (leb t y) (y - t) y ⌝ }
+{
+    let d = std::num::wrapping_sub_u64(y, t);
+    std::num::wrapping_add_u64(d, t & std::num::wrapping_sub_u64(0, d >> 63))
+}
+
+// r, or 0 where t is above y: no branch.
+fn digit(y: u64, t: u64, r: u64) -> u64
+    requires { ⌜ (y < 2 ^ 63) × (t < 2 ^ 63) ⌝ }
+    ensures { λ v. ⌜ v ≡ cond (leb t y) r 0 ⌝ }
+{
+    let d = std::num::wrapping_sub_u64(y, t);
+    r & std::num::wrapping_sub_u64(d >> 63, 1)
+}
+
+// The whole number nearest to the root of a * 2^52. q holds the digits found, w is the weight of the
+// last of them, and y is twice what q's square leaves of a * 2^52, in units of w, so that y stays
+// below 2^56 and one word is enough.
+fn nearest_root(a: u64) -> u64
+    requires { ⌜ a < 2 ^ 54 ⌝ }
+    ensures { λ r. ⌜ r ≡ nearestRoot 53 (a * 2 ^ 52) ⌝ }
+{
+    let mut q: u64 = 0;
+    let mut y = a;
+    let mut w: u64 = 0x20_0000_0000_0000;
+    while w > 1 {
+        let r = w / 2;
+        let t = 2 * q + r;
+        let s = digit(y, t, r);
+        y = 2 * reduced(y, t);
+        q = q + s;
+        w = r;
+    }
+    // where the root lies beyond q + 1/2; it never lies on it
+    if 2 * q < y { q + 1 } else { q }
+}
+
+// The square root: of a finite x above zero the value nearest to its root, of a zero or +infinity x
+// itself, and NaN of anything else.
+pub fn sqrt(x: f64) -> f64
+    ensures { λ r. ⌜ r ≡ sqrt x ⌝ }
+{
+    if x != x {
+        return x;
+    }
+    let b = f64::to_bits(x);
+    if b >= 0x8000_0000_0000_0000 {
+        if b == 0x8000_0000_0000_0000 {
+            return x;
+        }
+        return 0.0 / 0.0;
+    }
+    if b == 0 {
+        return x;
+    }
+    if b >= 0x7ff0_0000_0000_0000 {
+        return x;
+    }
+    let p = split(b);
+    let n = widened(p.m, p.h);
+    // an odd exponent gives the number one digit more, so that half of what is left is whole
+    let q = nearest_root(n.a << (n.g % 2));
+    // the root is q * 2^(g / 2) * 2^-589; q's leading digit adds 1 to the exponent's field
+    f64::from_bits(((n.g / 2 + 485) << 52) + q)
+}
