@@ -11,7 +11,6 @@ isFinite (fin s m e) = true
 
 -- 5 where x is infinite or a NaN, then 6 where it is outside the range from -limit to limit, ends included
 unfoldable pub checkNumber : Float → Float → Given (Unit {0})
-unfolding isFinite le neg
 checkNumber x limit =
     refuseIf (not (isFinite x)) 5
     (refuseIf (not (le (neg limit) x && le x limit)) 6

@@ -1,0 +1,8 @@
+-- `coordinate_transforms::from_lon_lat` meets its contract. Assumes nothing.
+use Rattle.coordinates.specs.CoordinateTransforms.{fromLonLat}
+use Rattle.coordinates.proofs.coordinate_transforms.from_lon_lat.Statement.{statement}
+use Rattle.coordinates.proofs.coordinate_transforms.from_lon_lat.Tie as tie
+
+pub from-lon-lat-spec : {M : Type 1} → statement M
+unfolding fromLonLat
+from-lon-lat-spec = tie.close (tie.spec (λ c κs. tt) (λ c κs. tt) (λ c κs. tt) (λ c. rw (c .before .forward .ensures, c .before .before .deg-to-rad2 .ensures, c .before .before .before .before .deg-to-rad .ensures)))

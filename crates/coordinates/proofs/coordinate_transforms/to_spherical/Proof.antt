@@ -1,0 +1,22 @@
+-- `coordinate_transforms::to_spherical` meets its contract. Assumes nothing.
+use mathlib.Core.Path.{_≡_, ap, _∙_}
+use lib.Ieee.{Float}
+use Rattle.arithmetic.specs.Arith.{ieee}
+use Rattle.elementary.specs.Arctangent.{atan2}
+use Rattle.coordinates.specs.declared.spherical.Spherical.{Spherical}
+use Rattle.coordinates.specs.CoordinateTransforms.{radians, toSpherical}
+use Rattle.coordinates.proofs.coordinate_transforms.to_spherical.Statement.{statement}
+use Rattle.coordinates.proofs.coordinate_transforms.to_spherical.Tie as tie
+
+abbrev spherical : Float → Float → Spherical
+spherical theta phi = record { theta = radians theta; phi = radians phi }
+
+returns : tie.Need-returns
+unfolding toSpherical
+returns c =
+    let p = c .before .before .before .args .cart .0 in
+    ap (λ (t : Float). spherical t (c .atan22 .result)) (c .before .before .atan2 .ensures)
+    ∙ ap (spherical (atan2 ieee (p .y) (p .x))) (c .atan22 .ensures ∙ ap (λ (r : Float). atan2 ieee r (p .z)) (c .before .sqrt .ensures))
+
+pub to-spherical-spec : {M : Type 1} → statement M
+to-spherical-spec = tie.close (tie.spec (λ c κs. tt) (λ c κs. tt) (λ c κs. tt) returns)

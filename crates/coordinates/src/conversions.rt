@@ -1,0 +1,86 @@
+// The two conversions as calls: what is out of its range is refused with document 01's number.
+use crate::coordinate_transforms;
+use crate::lonlat::LonLat;
+use crate::spherical::Spherical;
+use answer::Check;
+use answer::Refusal;
+ghost use mathlib.Core.Path.{_≡_};
+ghost use Rattle.answer.specs.Answer.{givenCheck};
+ghost use Rattle.arithmetic.specs.Arith.{ieee};
+ghost use Rattle.coordinates.specs.Conversions.{givenSpherical, givenLonLat, checkLonLat, checkSpherical, finiteSpherical, finiteLonLat, fromLonLatGiven, toLonLatGiven};
+
+pub enum SphericalAnswer {
+    Answered(Spherical),
+    Refused(Refusal),
+}
+
+pub enum LonLatAnswer {
+    Answered(LonLat),
+    Refused(Refusal),
+}
+
+// Longitude, then latitude: each for 5 and then 6.
+pub fn check_lon_lat(lonlat: LonLat) -> Check
+    ensures { λ r. ⌜ givenCheck r ≡ checkLonLat lonlat ⌝ }
+{
+    let longitude = answer::check_number(lonlat.longitude.0, 360.0);
+    if let Check::Refused(n) = longitude {
+        return Check::Refused(n);
+    }
+    answer::check_number(lonlat.latitude.0, 90.0)
+}
+
+// Theta, then phi: each for 5 and then 6.
+pub fn check_spherical(spherical: Spherical) -> Check
+    ensures { λ r. ⌜ givenCheck r ≡ checkSpherical spherical ⌝ }
+{
+    let theta = answer::check_number(spherical.theta.0, 8.0);
+    if let Check::Refused(n) = theta {
+        return Check::Refused(n);
+    }
+    answer::check_number(spherical.phi.0, 8.0)
+}
+
+// 9, unless both numbers are finite.
+pub fn finite_spherical(spherical: Spherical) -> SphericalAnswer
+    ensures { λ r. ⌜ givenSpherical r ≡ finiteSpherical spherical ⌝ }
+{
+    if answer::is_finite(spherical.theta.0) {
+        if answer::is_finite(spherical.phi.0) {
+            return SphericalAnswer::Answered(spherical);
+        }
+    }
+    SphericalAnswer::Refused(Refusal::AnswerNotFinite)
+}
+
+// 9, unless both numbers are finite.
+pub fn finite_lon_lat(lonlat: LonLat) -> LonLatAnswer
+    ensures { λ r. ⌜ givenLonLat r ≡ finiteLonLat lonlat ⌝ }
+{
+    if answer::is_finite(lonlat.longitude.0) {
+        if answer::is_finite(lonlat.latitude.0) {
+            return LonLatAnswer::Answered(lonlat);
+        }
+    }
+    LonLatAnswer::Refused(Refusal::AnswerNotFinite)
+}
+
+pub fn from_lon_lat(lonlat: LonLat) -> SphericalAnswer
+    ensures { λ r. ⌜ givenSpherical r ≡ fromLonLatGiven ieee lonlat ⌝ }
+{
+    let check = check_lon_lat(lonlat);
+    if let Check::Refused(n) = check {
+        return SphericalAnswer::Refused(n);
+    }
+    finite_spherical(coordinate_transforms::from_lon_lat(lonlat))
+}
+
+pub fn to_lon_lat(spherical: Spherical) -> LonLatAnswer
+    ensures { λ r. ⌜ givenLonLat r ≡ toLonLatGiven ieee spherical ⌝ }
+{
+    let check = check_spherical(spherical);
+    if let Check::Refused(n) = check {
+        return LonLatAnswer::Refused(n);
+    }
+    finite_lon_lat(coordinate_transforms::to_lon_lat(spherical))
+}

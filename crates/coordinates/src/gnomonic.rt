@@ -1,0 +1,27 @@
+// The gnomonic projection: the sphere seen from its centre on the plane of a face.
+use crate::base::Radians;
+use crate::polar::Polar;
+use crate::spherical::Spherical;
+ghost use mathlib.Core.Path.{_≡_};
+ghost use Rattle.arithmetic.specs.Arith.{ieee};
+ghost use Rattle.coordinates.specs.Gnomonic.{gnomonicForward, gnomonicInverse};
+
+pub fn forward(spherical: Spherical) -> Polar
+    ensures { λ r. ⌜ r ≡ gnomonicForward ieee spherical ⌝ }
+{
+    let theta = spherical.theta;
+    Polar {
+        rho: elementary::sine::tan(spherical.phi.0),
+        gamma: theta,
+    }
+}
+
+pub fn inverse(polar: Polar) -> Spherical
+    ensures { λ r. ⌜ r ≡ gnomonicInverse ieee polar ⌝ }
+{
+    let gamma = polar.gamma;
+    Spherical {
+        theta: gamma,
+        phi: Radians(elementary::arctangent::atan(polar.rho)),
+    }
+}

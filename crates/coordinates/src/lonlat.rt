@@ -1,0 +1,6 @@
+use crate::base::Degrees;
+
+pub struct LonLat {
+    pub longitude: Degrees,
+    pub latitude: Degrees,
+}
