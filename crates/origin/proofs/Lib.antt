@@ -1,0 +1,5 @@
+-- Laws behind the proofs of the functions.
+pub mod Table
+pub mod Least
+pub mod AxisSines
+pub mod Shared

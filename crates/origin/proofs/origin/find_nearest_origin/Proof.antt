@@ -1,0 +1,13 @@
+-- `origin::find_nearest_origin` meets its contract. Assumes nothing.
+use mathlib.Core.Path.{ap, _∙_}
+use borrow.Author.Needs.{needs}
+use Rattle.origin.specs.Nearest.{least, nearestOrigin}
+use Rattle.origin.proofs.origin.find_nearest_origin.Statement.{statement}
+use Rattle.origin.proofs.origin.find_nearest_origin.Tie as tie
+
+returns : tie.Need-returns
+unfolding nearestOrigin
+returns c = c .least .ensures ∙ ap least (c .before .before .haversines .ensures)
+
+pub find-nearest-origin-spec : {M : Type 1} → statement M
+find-nearest-origin-spec = tie.close (tie.spec (λ c κs. tt) (λ c. search needs) (λ c κs. search needs) returns)

@@ -1,0 +1,16 @@
+-- `origin::nearest` meets its contract. Assumes nothing.
+use borrow.Author.Needs.{needs}
+use Rattle.origin.specs.Nearest.{nearestGiven}
+use Rattle.origin.proofs.origin.nearest.Statement.{statement}
+use Rattle.origin.proofs.origin.nearest.Tie as tie
+
+returns : tie.Need-returns
+unfolding nearestGiven
+returns c = simp (← (c .before .before .before .check-spherical .ensures), c .before .check .given .1)
+
+returns-2 : tie.Need-returns-2
+unfolding nearestGiven
+returns-2 c = simp (← (c .before .before .before .check-spherical .ensures), c .before .enum-told .given .1, c .find-nearest-origin .ensures)
+
+pub nearest-spec : {M : Type 1} → statement M
+nearest-spec = tie.close (tie.spec (λ c κs. tt) (λ c. search needs) returns (λ c. search needs) (λ c κs. tt) returns-2)

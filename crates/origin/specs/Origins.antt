@@ -1,0 +1,104 @@
+-- core/origin.rs: generate_origins, and the table of its twelve origins as 84 numbers in final order. Definitions only.
+use Prim.Native.Nat.{ℕ, zero, suc, _+_, _*_, _%_}
+use mathlib.Core.Bool.{false}
+use mathlib.Core.List.{List, [], _∷_, _++_, map}
+use lib.ListN.{getD}
+use lib.Ieee.{Float, nan, binary64, ofBits}
+use Rattle.arithmetic.specs.Arith.{Arith}
+use Rattle.elementary.specs.Constants.{0·0, PI}
+use Rattle.coordinates.specs.CoordinateTransforms.{radians}
+use Rattle.origin.specs.Constants.{PI-OVER-5, TWO-PI-OVER-5, INTERHEDRAL-ANGLE}
+use Rattle.origin.specs.Quaternion.{QUATERNIONS}
+use Rattle.origin.specs.declared.utils.Quat.{Quat}
+use Rattle.origin.specs.declared.utils.Origin.{Origin}
+
+-- ---- an origin as the seven numbers of a table's row: axis theta, axis phi, quaternion x, y, z, w, and angle
+
+abbrev pub originOf : Float → Float → Float → Float → Float → Float → Float → Origin
+originOf theta phi a b c d angle =
+    record {
+      axis = record { theta = radians theta; phi = radians phi };
+      quat = record { x = a; y = b; z = c; w = d };
+      angle = radians angle;
+    }
+
+unfoldable pub rowOf : Origin → List Float
+rowOf o = o .axis .theta .0 ∷ o .axis .phi .0 ∷ o .quat .x ∷ o .quat .y ∷ o .quat .z ∷ o .quat .w ∷ o .angle .0 ∷ []
+
+-- the origin with the number k in a table of rows; NaN where the table has no such row
+unfoldable pub originAt : List Float → ℕ → Origin
+originAt table k =
+    let at = 7 * k in
+    originOf (getD table at nan) (getD table (at + 1) nan) (getD table (at + 2) nan) (getD table (at + 3) nan) (getD table (at + 4) nan) (getD table (at + 5) nan) (getD table (at + 6) nan)
+
+-- ---- how the Rust makes them
+
+nowhere : Origin
+nowhere = originOf nan nan nan nan nan nan nan
+
+-- add_origin: axis, angle, and the quaternion with the number k
+unfoldable addOrigin : Float → Float → Float → ℕ → Origin
+unfolding QUATERNIONS
+addOrigin theta phi angle k =
+    let q = getD QUATERNIONS k (nowhere .quat) in
+    originOf theta phi (q .x) (q .y) (q .z) (q .w) angle
+
+-- ORIGIN_ORDER
+abbrev pub ORIGIN-ORDER : List ℕ
+ORIGIN-ORDER = 0 ∷ 1 ∷ 2 ∷ 4 ∷ 3 ∷ 5 ∷ 7 ∷ 8 ∷ 6 ∷ 11 ∷ 10 ∷ 9 ∷ []
+
+module _ (A : Arith) where
+  open Arith A using (_⊕_, _⊖_, _⊗_, whole)
+
+  infixl 60 _⊕_ _⊖_
+  infixl 70 _⊗_
+  -- the middle band's loop body at i: an origin of the northern ring and one of the southern
+  unfoldable middleBand : ℕ → List Origin
+  unfolding addOrigin PI-OVER-5 TWO-PI-OVER-5 INTERHEDRAL-ANGLE PI
+  middleBand i =
+      let alpha = whole false i ⊗ TWO-PI-OVER-5 in
+      let alpha2 = alpha ⊕ PI-OVER-5 in
+      addOrigin alpha INTERHEDRAL-ANGLE PI-OVER-5 (i + 1)
+      ∷ addOrigin alpha2 (PI ⊖ INTERHEDRAL-ANGLE) PI-OVER-5 ((i + 3) % 5 + 6)
+      ∷ []
+
+  -- north pole, middle band, south pole
+  unfoldable made : List Origin
+  unfolding addOrigin middleBand PI
+  made =
+      (addOrigin 0·0 0·0 0·0 0 ∷ [])
+      ++ (middleBand 0 ++ (middleBand 1 ++ (middleBand 2 ++ (middleBand 3 ++ (middleBand 4
+      ++ (addOrigin 0·0 PI 0·0 11 ∷ []))))))
+
+  -- generate_origins: made, then renumbered
+  unfoldable pub generateOrigins : List Origin
+  unfolding made nowhere
+  generateOrigins = map (λ k. getD made k nowhere) ORIGIN-ORDER
+
+  rows : List Origin → List Float
+  rows [] = []
+  rows (o ∷ os) = rowOf o ++ rows os
+
+  unfoldable pub generatedTable : List Float
+  unfolding generateOrigins rows rowOf
+  generatedTable = rows generateOrigins
+
+-- ---- the built-in table, by its bits, a row a line. That it is `generatedTable ieee` is computed (crate `opened`).
+
+unfoldable pub ORIGINS : List Float
+unfolding ofBits
+ORIGINS =
+    map (ofBits binary64)
+    (0x0000_0000_0000_0000 ∷ 0x0000_0000_0000_0000 ∷ 0x0000_0000_0000_0000 ∷ 0x0000_0000_0000_0000 ∷ 0x0000_0000_0000_0000 ∷ 0x3ff0_0000_0000_0000 ∷ 0x0000_0000_0000_0000 ∷
+    0x0000_0000_0000_0000 ∷ 0x3ff1_b6e1_92eb_be44 ∷ 0x0000_0000_0000_0000 ∷ 0x3fe0_d2ca_0da1_530d ∷ 0x0000_0000_0000_0000 ∷ 0x3feb_3888_0b46_03e4 ∷ 0x3fe4_1b2f_769c_f0e0 ∷
+    0x3fe4_1b2f_769c_f0e0 ∷ 0x4000_468a_8ace_4df6 ∷ 0xbfe0_0000_0000_0000 ∷ 0x3fe6_05a9_0c73_ab79 ∷ 0x0000_0000_0000_0000 ∷ 0x3fe0_d2ca_0da1_530d ∷ 0x3fe4_1b2f_769c_f0e0 ∷
+    0x3ffe_28c7_31eb_6950 ∷ 0x4000_468a_8ace_4df6 ∷ 0xbfe9_e377_9b97_f4a8 ∷ 0xbfd0_d2ca_0da1_530d ∷ 0x0000_0000_0000_0000 ∷ 0x3fe0_d2ca_0da1_530d ∷ 0x3fe4_1b2f_769c_f0e0 ∷
+    0x3ff4_1b2f_769c_f0e0 ∷ 0x3ff1_b6e1_92eb_be44 ∷ 0xbfe0_0000_0000_0000 ∷ 0x3fc4_cb7b_fb49_61ae ∷ 0x0000_0000_0000_0000 ∷ 0x3feb_3888_0b46_03e4 ∷ 0x3fe4_1b2f_769c_f0e0 ∷
+    0x4004_1b2f_769c_f0e0 ∷ 0x3ff1_b6e1_92eb_be44 ∷ 0xbfd3_c6ef_372f_e950 ∷ 0xbfdb_3888_0b46_03e5 ∷ 0x0000_0000_0000_0000 ∷ 0x3feb_3888_0b46_03e4 ∷ 0x3fe4_1b2f_769c_f0e0 ∷
+    0x400e_28c7_31eb_6950 ∷ 0x3ff1_b6e1_92eb_be44 ∷ 0x3fd3_c6ef_372f_e950 ∷ 0xbfdb_3888_0b46_03e5 ∷ 0x0000_0000_0000_0000 ∷ 0x3feb_3888_0b46_03e4 ∷ 0x3fe4_1b2f_769c_f0e0 ∷
+    0x4011_97c9_87c9_52c4 ∷ 0x4000_468a_8ace_4df6 ∷ 0x3fe9_e377_9b97_f4a8 ∷ 0xbfd0_d2ca_0da1_530d ∷ 0x0000_0000_0000_0000 ∷ 0x3fe0_d2ca_0da1_530d ∷ 0x3fe4_1b2f_769c_f0e0 ∷
+    0x4009_21fb_5444_2d18 ∷ 0x4000_468a_8ace_4df6 ∷ 0x0000_0000_0000_0000 ∷ 0xbfeb_3888_0b46_03e4 ∷ 0x0000_0000_0000_0000 ∷ 0x3fe0_d2ca_0da1_530d ∷ 0x3fe4_1b2f_769c_f0e0 ∷
+    0x0000_0000_0000_0000 ∷ 0x4009_21fb_5444_2d18 ∷ 0x0000_0000_0000_0000 ∷ 0xbff0_0000_0000_0000 ∷ 0x0000_0000_0000_0000 ∷ 0x0000_0000_0000_0000 ∷ 0x0000_0000_0000_0000 ∷
+    0x4016_9e95_6570_8efc ∷ 0x4000_468a_8ace_4df6 ∷ 0x3fe0_0000_0000_0000 ∷ 0x3fe6_05a9_0c73_ab79 ∷ 0x0000_0000_0000_0000 ∷ 0x3fe0_d2ca_0da1_530d ∷ 0x3fe4_1b2f_769c_f0e0 ∷
+    0x4014_1b2f_769c_f0e0 ∷ 0x3ff1_b6e1_92eb_be44 ∷ 0x3fe0_0000_0000_0000 ∷ 0x3fc4_cb7b_fb49_61ae ∷ 0x0000_0000_0000_0000 ∷ 0x3feb_3888_0b46_03e4 ∷ 0x3fe4_1b2f_769c_f0e0 ∷
+    [])

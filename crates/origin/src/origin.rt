@@ -1,0 +1,249 @@
+// The twelve origins, and the one nearest to a point.
+use crate::utils::Origin;
+use crate::utils::Quat;
+use answer::Check;
+use answer::Refusal;
+use coordinates::base::Radians;
+use coordinates::spherical::Spherical;
+use elementary::sine::sin;
+ghost use mathlib.Core.Path.{_≡_};
+ghost use lib.ListN.{length};
+ghost use lib.Ieee.{binary64, mul, div};
+ghost use Rattle.arithmetic.specs.Arith.{ieee};
+ghost use Rattle.elementary.specs.Sine.{sin};
+ghost use Rattle.coordinates.specs.Constants.{2·0};
+ghost use Rattle.origin.specs.Origins.{ORIGINS, originAt};
+ghost use Rattle.origin.specs.Nearest.{givenOrigin, least, haversine, haversines, nearestOrigin, nearestGiven};
+
+// A row an origin, in final order: axis theta, axis phi, quaternion x, y, z, w, angle.
+const ORIGINS: [f64; 84] = [
+    0.0,
+    0.0,
+    0.0,
+    0.0,
+    0.0,
+    1.0,
+    0.0,
+    0.0,
+    1.1071487177940904,
+    0.0,
+    0.5257311121191336,
+    0.0,
+    0.8506508083520399,
+    0.6283185307179586,
+    0.6283185307179586,
+    2.0344439357957027,
+    -0.5,
+    0.6881909602355868,
+    0.0,
+    0.5257311121191336,
+    0.6283185307179586,
+    1.8849555921538759,
+    2.0344439357957027,
+    -0.8090169943749475,
+    -0.2628655560595668,
+    0.0,
+    0.5257311121191336,
+    0.6283185307179586,
+    1.2566370614359172,
+    1.1071487177940904,
+    -0.5,
+    0.16245984811645314,
+    0.0,
+    0.8506508083520399,
+    0.6283185307179586,
+    2.5132741228718345,
+    1.1071487177940904,
+    -0.30901699437494745,
+    -0.42532540417602,
+    0.0,
+    0.8506508083520399,
+    0.6283185307179586,
+    3.7699111843077517,
+    1.1071487177940904,
+    0.30901699437494745,
+    -0.42532540417602,
+    0.0,
+    0.8506508083520399,
+    0.6283185307179586,
+    4.39822971502571,
+    2.0344439357957027,
+    0.8090169943749475,
+    -0.2628655560595668,
+    0.0,
+    0.5257311121191336,
+    0.6283185307179586,
+    3.141592653589793,
+    2.0344439357957027,
+    0.0,
+    -0.8506508083520399,
+    0.0,
+    0.5257311121191336,
+    0.6283185307179586,
+    0.0,
+    3.141592653589793,
+    0.0,
+    -1.0,
+    0.0,
+    0.0,
+    0.0,
+    5.654866776461628,
+    2.0344439357957027,
+    0.5,
+    0.6881909602355868,
+    0.0,
+    0.5257311121191336,
+    0.6283185307179586,
+    5.026548245743669,
+    1.1071487177940904,
+    0.5,
+    0.16245984811645314,
+    0.0,
+    0.8506508083520399,
+    0.6283185307179586,
+];
+
+// The origin with the number id; NaN in every place where there is none.
+pub fn get_origin(id: u8) -> Origin
+    ensures { λ r. ⌜ r ≡ originAt ORIGINS id ⌝ }
+{
+    if id > 11 {
+        let nan = 0.0 / 0.0;
+        return Origin {
+            axis: Spherical {
+                theta: Radians(nan),
+                phi: Radians(nan),
+            },
+            quat: Quat {
+                x: nan,
+                y: nan,
+                z: nan,
+                w: nan,
+            },
+            angle: Radians(nan),
+        };
+    }
+    let table = ORIGINS;
+    let at = 7 * (id as usize);
+    Origin {
+        axis: Spherical {
+            theta: Radians(table[at]),
+            phi: Radians(table[at + 1]),
+        },
+        quat: Quat {
+            x: table[at + 2],
+            y: table[at + 3],
+            z: table[at + 4],
+            w: table[at + 5],
+        },
+        angle: Radians(table[at + 6]),
+    }
+}
+
+// Modified haversine formula of the Rust: it grows with the angle between the two.
+pub fn haversine(point: Spherical, axis: Spherical) -> f64
+    ensures { λ r. ⌜ r ≡ haversine ieee point axis ⌝ }
+{
+    let theta = point.theta.0;
+    let phi = point.phi.0;
+    let theta2 = axis.theta.0;
+    let phi2 = axis.phi.0;
+    let dtheta = theta2 - theta;
+    let dphi = phi2 - phi;
+    let a1 = sin(dphi / 2.0);
+    let a2 = sin(dtheta / 2.0);
+    a1 * a1 + a2 * a2 * sin(phi) * sin(phi2)
+}
+
+// The square of the sine of half an angle.
+fn half_sine_squared(d: f64) -> f64
+    ensures { λ r. ⌜ r ≡ mul binary64 (sin ieee (div binary64 d 2·0)) (sin ieee (div binary64 d 2·0)) ⌝ }
+{
+    let a = sin(d / 2.0);
+    a * a
+}
+
+// The sine of the axis's phi in both rings, and at the south pole; at the north pole it is 0.
+const RING_SINE: f64 = 0.8944271909999159;
+
+const SOUTH_SINE: f64 = 1.2246467991473532e-16;
+
+// From the point to each of the twelve axes. They share four values of phi and ten of theta, so
+// that 15 sines do for 48.
+fn haversines(point: Spherical) -> [f64; 12]
+    ensures { λ r. ⌜ r ≡ haversines ieee ORIGINS point ⌝ }
+{
+    let theta = point.theta.0;
+    let phi = point.phi.0;
+    let s = sin(phi);
+    let north = half_sine_squared(0.0 - phi);
+    let upper = half_sine_squared(1.1071487177940904 - phi);
+    let lower = half_sine_squared(2.0344439357957027 - phi);
+    let south = half_sine_squared(3.141592653589793 - phi);
+    let t0 = half_sine_squared(0.0 - theta) * s;
+    let t1 = half_sine_squared(0.6283185307179586 - theta) * s;
+    let t2 = half_sine_squared(1.2566370614359172 - theta) * s;
+    let t3 = half_sine_squared(1.8849555921538759 - theta) * s;
+    let t4 = half_sine_squared(2.5132741228718345 - theta) * s;
+    let t5 = half_sine_squared(3.141592653589793 - theta) * s;
+    let t6 = half_sine_squared(3.7699111843077517 - theta) * s;
+    let t7 = half_sine_squared(4.39822971502571 - theta) * s;
+    let t8 = half_sine_squared(5.026548245743669 - theta) * s;
+    let t9 = half_sine_squared(5.654866776461628 - theta) * s;
+    [
+        north + t0 * 0.0,
+        upper + t0 * RING_SINE,
+        lower + t1 * RING_SINE,
+        lower + t3 * RING_SINE,
+        upper + t2 * RING_SINE,
+        upper + t4 * RING_SINE,
+        upper + t6 * RING_SINE,
+        lower + t7 * RING_SINE,
+        lower + t5 * RING_SINE,
+        south + t0 * SOUTH_SINE,
+        lower + t9 * RING_SINE,
+        upper + t8 * RING_SINE,
+    ]
+}
+
+// The place of the least, the first where several are equal.
+fn least(distances: &[f64]) -> u8
+    requires { ⌜ length (now distances) ≡ 12 ⌝ }
+    ensures { λ r. ⌜ r ≡ least (now (distances .entry)) ⌝ }
+{
+    let mut min_distance = f64::from_bits(0x7ff0_0000_0000_0000);
+    let mut nearest: u8 = 0;
+    let mut i: u8 = 0;
+    while i < 12 {
+        let distance = distances[i as usize];
+        if distance < min_distance {
+            min_distance = distance;
+            nearest = i;
+        }
+        i += 1;
+    }
+    nearest
+}
+
+// The lowest-numbered origin with the least haversine, without the checks of the call.
+pub fn find_nearest_origin(point: Spherical) -> u8
+    ensures { λ r. ⌜ r ≡ nearestOrigin ieee ORIGINS point ⌝ }
+{
+    let distances = haversines(point);
+    least(&distances)
+}
+
+pub enum OriginAnswer {
+    Answered(u8),
+    Refused(Refusal),
+}
+
+pub fn nearest(point: Spherical) -> OriginAnswer
+    ensures { λ r. ⌜ givenOrigin r ≡ nearestGiven ieee ORIGINS point ⌝ }
+{
+    let check = coordinates::conversions::check_spherical(point);
+    if let Check::Refused(n) = check {
+        return OriginAnswer::Refused(n);
+    }
+    OriginAnswer::Answered(find_nearest_origin(point))
+}
