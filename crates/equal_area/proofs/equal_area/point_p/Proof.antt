@@ -1,0 +1,8 @@
+-- `equal_area::point_p` meets its contract. Assumes nothing.
+use Rattle.equal_area.specs.EqualArea.{pointP}
+use Rattle.equal_area.proofs.equal_area.point_p.Statement.{statement}
+use Rattle.equal_area.proofs.equal_area.point_p.Tie as tie
+
+pub point-p-spec : {M : Type 1} → statement M
+unfolding pointP
+point-p-spec = tie.close (tie.spec (λ c κs. tt) (λ c κs. tt) (λ c κs. tt) (λ c κs. tt) (λ c. rw (c .normalize .ensures, c .before .scale-and-add .ensures, c .before .before .scale .ensures, c .before .before .before .before .before .before .before .before .before .before .before .before .before .sin-cos .ensures)))

@@ -1,0 +1,203 @@
+// Equal-area projection of Snyder, with closed-form equations: a point of a spherical triangle ABC
+// goes to the face triangle by way of P, where the great circles through A and the point, and through
+// B and C, meet.
+use crate::spherical_polygon::spherical_triangle_area;
+use coordinates::coordinate_transforms::barycentric_to_face;
+use coordinates::coordinate_transforms::face_to_barycentric;
+use coordinates::coords::Barycentric;
+use coordinates::coords::Cartesian;
+use coordinates::coords::Face;
+use coordinates::coords::FaceTriangle;
+use coordinates::coords::SphericalTriangle;
+use coordinates::vector::cross;
+use coordinates::vector::dot;
+use coordinates::vector::length;
+use coordinates::vector::normalize;
+use coordinates::vector::scale;
+use coordinates::vector::scale_and_add;
+use elementary::root::sqrt;
+use elementary::signs::abs;
+use elementary::signs::max_zero;
+use elementary::sine::sin_cos;
+ghost use mathlib.Core.Path.{_≡_};
+ghost use Rattle.arithmetic.specs.Arith.{ieee};
+ghost use Rattle.equal_area.specs.EqualArea.{computeConstants, oneOver, forward, isOdd, pointP, between, inside, fromBarycentric, inverse};
+
+// What the maps take from the one canonical triangle: all face triangles are congruent.
+pub struct TriangleConstants {
+    pub a_dot_b: f64,
+    pub a_dot_c: f64,
+    // takes [cos alpha, sin alpha] to the weights of B and C, as [c1c, c2c, c1s, c2s, c1o, c2o]
+    pub alpha_transform: AlphaTransform,
+    pub area_abc: f64,
+    // A · (B × C), with its sign
+    pub volume_abc: f64,
+}
+
+pub struct AlphaTransform {
+    pub c1c: f64,
+    pub c2c: f64,
+    pub c1s: f64,
+    pub c2s: f64,
+    pub c1o: f64,
+    pub c2o: f64,
+}
+
+pub fn compute_constants(triangle: SphericalTriangle) -> TriangleConstants
+    ensures { λ r. ⌜ r ≡ computeConstants ieee triangle ⌝ }
+{
+    let a = triangle.a;
+    let b = triangle.b;
+    let c = triangle.c;
+    let bxc = cross(b, c);
+    let a_dot_b = dot(a, b);
+    let a_dot_c = dot(a, c);
+    let b_dot_c = dot(b, c);
+
+    let v = dot(a, bxc);
+    let p = a_dot_c + b_dot_c;
+    let q = a_dot_b + 1.0;
+    let r = a_dot_b * b_dot_c - a_dot_c;
+    let f = p * p - q * q;
+    let g = 2.0 * q * r;
+    let area = spherical_triangle_area(a, b, c);
+
+    TriangleConstants {
+        a_dot_b,
+        a_dot_c,
+        alpha_transform: AlphaTransform {
+            c1c: v * v - f,
+            c2c: -g,
+            c1s: -2.0 * v * p,
+            c2s: 2.0 * v * q,
+            c1o: v * v + f,
+            c2o: g,
+        },
+        area_abc: area.0,
+        volume_abc: v,
+    }
+}
+
+// 1 / d, or 1 where d is not above 0.
+fn one_over(d: f64) -> f64
+    ensures { λ r. ⌜ r ≡ oneOver ieee d ⌝ }
+{
+    if d > 0.0 { 1.0 / d } else { 1.0 }
+}
+
+// From the sphere to the face. bxc is B × C of the spherical triangle.
+pub fn forward(
+    constants: TriangleConstants,
+    v: Cartesian,
+    spherical_triangle: SphericalTriangle,
+    bxc: Cartesian,
+    face_triangle: FaceTriangle,
+) -> Face
+    ensures { λ r. ⌜ r ≡ forward ieee constants v «spherical_triangle» bxc «face_triangle» ⌝ }
+{
+    let a = spherical_triangle.a;
+    let b = spherical_triangle.b;
+    let area_abc = constants.area_abc;
+    let volume_abc = constants.volume_abc;
+
+    let volume_vbc = dot(v, bxc);
+    let p = scale_and_add(scale(v, volume_abc), a, -volume_vbc);
+    let d = length(p);
+    let p = scale(p, one_over(d));
+
+    let area = spherical_triangle_area(a, b, p);
+    let area_abp = max_zero(area.0);
+    let alpha = area_abp / area_abc;
+    let rho = (d / volume_abc) * sqrt((1.0 + dot(a, p)) / (1.0 + dot(a, v)));
+
+    let b_coords = Barycentric {
+        u: 1.0 - rho,
+        v: rho * (1.0 - alpha),
+        w: rho * alpha,
+    };
+    barycentric_to_face(b_coords, face_triangle)
+}
+
+// Whether B and C stand in the mirror image of the canonical triangle's order.
+fn is_odd(constants: TriangleConstants, triangle: SphericalTriangle) -> bool
+    ensures { λ r. ⌜ r ≡ isOdd ieee constants triangle ⌝ }
+{
+    let a = triangle.a;
+    let b = triangle.b;
+    let face_a_dot_b = dot(a, b);
+    abs(face_a_dot_b - constants.a_dot_b) > abs(face_a_dot_b - constants.a_dot_c)
+}
+
+// P between B and C, in the even orientation, at the angle alpha.
+fn point_p(constants: TriangleConstants, b: Cartesian, c: Cartesian, alpha: f64) -> Cartesian
+    ensures { λ r. ⌜ r ≡ pointP ieee constants b c alpha ⌝ }
+{
+    let m = constants.alpha_transform;
+    let s = sin_cos(alpha);
+    let weight_b = m.c1c * s.cos + m.c1s * s.sin + m.c1o;
+    let weight_c = m.c2c * s.cos + m.c2s * s.sin + m.c2o;
+    normalize(scale_and_add(scale(b, weight_b), c, weight_c))
+}
+
+// The point between A and P.
+fn between(a: Cartesian, p: Cartesian, rho: f64) -> Cartesian
+    ensures { λ r. ⌜ r ≡ between ieee a p rho ⌝ }
+{
+    let s = dot(a, p);
+    let t = 1.0 + rho * rho * (s - 1.0);
+    let weight_p = rho * sqrt((1.0 + t) / (1.0 + s));
+    let weight_a = t - s * weight_p;
+    scale_and_add(scale(a, weight_a), p, weight_p)
+}
+
+// The point of the sphere where no corner is returned. An odd triangle is normalised by exchanging B
+// and C and the matching weight.
+fn inside(constants: TriangleConstants, bary: Barycentric, triangle: SphericalTriangle) -> Cartesian
+    ensures { λ r. ⌜ r ≡ inside ieee constants bary triangle ⌝ }
+{
+    let a = triangle.a;
+    let b = triangle.b;
+    let c = triangle.c;
+    let rho = 1.0 - bary.u;
+    if is_odd(constants, triangle) {
+        let alpha = (bary.v / rho) * constants.area_abc;
+        between(a, point_p(constants, c, b, alpha), rho)
+    } else {
+        let alpha = (bary.w / rho) * constants.area_abc;
+        between(a, point_p(constants, b, c, alpha), rho)
+    }
+}
+
+// A corner where its coordinate is nearly 1, tried in the order a, b, c.
+fn from_barycentric(
+    constants: TriangleConstants,
+    bary: Barycentric,
+    triangle: SphericalTriangle,
+) -> Cartesian
+    ensures { λ r. ⌜ r ≡ fromBarycentric ieee constants bary triangle ⌝ }
+{
+    let threshold = 1.0 - 1e-14;
+    if bary.u > threshold {
+        return triangle.a;
+    }
+    if bary.v > threshold {
+        return triangle.b;
+    }
+    if bary.w > threshold {
+        return triangle.c;
+    }
+    inside(constants, bary, triangle)
+}
+
+// From the face to the sphere.
+pub fn inverse(
+    constants: TriangleConstants,
+    face_point: Face,
+    face_triangle: FaceTriangle,
+    spherical_triangle: SphericalTriangle,
+) -> Cartesian
+    ensures { λ r. ⌜ r ≡ inverse ieee constants «face_point» «face_triangle» «spherical_triangle» ⌝ }
+{
+    let bary = face_to_barycentric(face_point, face_triangle);
+    from_barycentric(constants, bary, spherical_triangle)
+}
