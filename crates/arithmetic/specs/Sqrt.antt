@@ -1,6 +1,6 @@
 -- Document 01, "Elementary steps", square root: IEEE 754's on binary64, over whole numbers, by comparing squares. Definitions only.
 use Prim.Native.Nat.{ℕ, zero, suc, _+_, _-_, _*_, _/_, _%_, _^_}
-use mathlib.Core.Bool.{Bool, true, false, cond}
+use mathlib.Core.Bool.{true, false, cond}
 use lib.IntN.{ℤ, pos, negsuc}
 use lib.Dec.{leb, ltb}
 use lib.Ieee.{Float, nan, inf, fin, size, odd}

@@ -1,5 +1,5 @@
 -- What atan and atan2 come to at each way through the code. Assumes nothing.
-use mathlib.Core.Path.{_≡_, refl, sym, ap, _∙_}
+use mathlib.Core.Path.{_≡_, refl, ap, _∙_}
 use mathlib.Core.Bool.{Bool, true, false, _&&_}
 use lib.Ieee.{Float, nan, inf, fin, binary64, add, sub, mul, div, le, eq}
 use Rattle.answer.specs.Number.{isFinite}

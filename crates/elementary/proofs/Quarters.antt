@@ -5,7 +5,6 @@ use Prim.Native.Nat.{ℕ, zero, suc}
 use lib.Ieee.{Float, nan, inf, fin, binary64, ofBits, mul, div, rem, neg}
 use Rattle.answer.specs.Number.{isFinite}
 use Rattle.arithmetic.specs.Arith.{ieee}
-use Rattle.elementary.specs.declared.sine.SinCos.{SinCos}
 use Rattle.elementary.specs.Constants.{TAU, FRAC-2-PI, sineFirst, sineRest, cosineFirst, cosineRest}
 use Rattle.elementary.specs.Whole.{roundℤ}
 use Rattle.elementary.specs.Sine.{series, modulo4, wholeFloat, reduced, sinCosReduced, sinCosFinite, sinCos}

@@ -1,6 +1,6 @@
 -- Document 01, "Elementary steps": Core, atan and atan2, line by line. Definitions only.
-use mathlib.Core.Bool.{Bool, true, false, _&&_}
-use lib.Ieee.{Float, nan, inf, fin, neg, le, eq}
+use mathlib.Core.Bool.{true, false, _&&_}
+use lib.Ieee.{Float, nan, inf, fin, le, eq}
 use Rattle.answer.specs.Number.{isFinite}
 use Rattle.arithmetic.specs.Arith.{Arith}
 use Rattle.elementary.specs.Constants.{0·0, 1·0, 4·0, PI, FRAC-PI-2, coreFirst, coreRest}

@@ -2,7 +2,7 @@
 use Prim.Native.Nat.{ℕ, zero, suc, _*_}
 use mathlib.Core.Bool.{false}
 use mathlib.Core.List.{List, [], _∷_, map}
-use lib.IntN.{pos, negsuc}
+use lib.IntN.{pos}
 use lib.Ieee.{Float, fin, binary64, round, div, ofBits}
 
 abbrev pub 0·0 : Float

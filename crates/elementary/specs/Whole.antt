@@ -1,5 +1,5 @@
 -- Document 01, "Elementary steps": floor and round. n / d is the size of a finite value. Definitions only.
-use Prim.Native.Nat.{ℕ, zero, suc, _+_, _*_, _/_, _%_}
+use Prim.Native.Nat.{ℕ, suc, _+_, _*_, _/_, _%_}
 use mathlib.Core.Bool.{Bool, true, false, cond}
 use lib.IntN.{ℤ, pos, negℤ}
 use lib.Dec.{eqb}

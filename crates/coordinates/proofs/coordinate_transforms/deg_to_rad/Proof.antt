@@ -1,6 +1,5 @@
 -- `coordinate_transforms::deg_to_rad` meets its contract. Assumes nothing.
 use mathlib.Core.Path.{refl}
-use Rattle.elementary.specs.Constants.{PI}
 use Rattle.coordinates.specs.CoordinateTransforms.{degToRad}
 use Rattle.coordinates.proofs.coordinate_transforms.deg_to_rad.Statement.{statement}
 use Rattle.coordinates.proofs.coordinate_transforms.deg_to_rad.Tie as tie

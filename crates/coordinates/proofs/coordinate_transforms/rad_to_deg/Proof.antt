@@ -1,6 +1,5 @@
 -- `coordinate_transforms::rad_to_deg` meets its contract. Assumes nothing.
 use mathlib.Core.Path.{refl}
-use Rattle.elementary.specs.Constants.{PI}
 use Rattle.coordinates.specs.CoordinateTransforms.{radToDeg}
 use Rattle.coordinates.proofs.coordinate_transforms.rad_to_deg.Statement.{statement}
 use Rattle.coordinates.proofs.coordinate_transforms.rad_to_deg.Tie as tie

@@ -1,5 +1,5 @@
 -- `coordinate_transforms::to_spherical` meets its contract. Assumes nothing.
-use mathlib.Core.Path.{_≡_, ap, _∙_}
+use mathlib.Core.Path.{ap, _∙_}
 use lib.Ieee.{Float}
 use Rattle.arithmetic.specs.Arith.{ieee}
 use Rattle.elementary.specs.Arctangent.{atan2}

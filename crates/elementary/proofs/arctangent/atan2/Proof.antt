@@ -1,7 +1,6 @@
 -- `atan2` meets its contract. Assumes nothing.
-use mathlib.Core.Path.{sym, ap, _∙_}
+use mathlib.Core.Path.{sym, _∙_}
 use borrow.Author.Tests.{not-true, not-false}
-use lib.Ieee.{ofBits}
 use Rattle.elementary.specs.Constants.{PI}
 use Rattle.elementary.proofs.Quarters.{zero-by-zero}
 use Rattle.elementary.proofs.Angles.{and-first, and-then, atan2-nan, atan2-left, atan2-right}

@@ -1,8 +1,6 @@
 -- `sin_cos` meets its contract. Assumes nothing.
-use mathlib.Core.Path.{sym, ap, _∙_}
+use mathlib.Core.Path.{sym, _∙_}
 use borrow.Author.Tests.{not-true, not-false}
-use Rattle.elementary.specs.declared.sine.SinCos.{SinCos}
-use Rattle.elementary.specs.Sine.{sinCos}
 use Rattle.elementary.proofs.Quarters.{zero-by-zero, otherwise-nan}
 use Rattle.elementary.proofs.sine.sin_cos.Statement.{statement}
 use Rattle.elementary.proofs.sine.sin_cos.Tie as tie
