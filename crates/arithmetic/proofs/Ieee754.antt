@@ -3,7 +3,7 @@
 use mathlib.Core.Path.{_≡_, refl, sym, ap, _∙_, subst}
 use mathlib.Core.Logic.{_⊎_, inl, inr}
 use Prim.Native.Nat.{ℕ, zero, suc, _+_, _-_, _*_, _/_, _%_, _^_, _≤_, _<_, zero-le}
-use native.Mathlib.Nat.{add-mul, le-trans, le-of-eq, le-antisymm, le-of-lt, lt-of-lt-of-le, lt-of-le-of-lt, lt-irrefl, eq-or-lt-of-le, mul-comm, mul-assoc, mul-right-comm, mul-le-mul, mul-le-mul-left, mul-le-mul-right, mul-lt-mul-of-pos-right, lt-of-mul-lt-mul-right, le-of-mul-le-mul-right, mul-pos, zero-lt-suc}
+use native.Mathlib.Nat.{add-mul, le-trans, le-of-eq, le-antisymm, le-of-lt, lt-of-lt-of-le, lt-of-le-of-lt, lt-irrefl, lt-of-not-le, not-le-of-lt, eq-or-lt-of-le, mul-comm, mul-assoc, mul-right-comm, mul-le-mul, mul-le-mul-left, mul-le-mul-right, mul-lt-mul-of-pos-right, lt-of-mul-lt-mul-right, le-of-mul-le-mul-right, mul-pos, zero-lt-suc}
 use native.Mathlib.Omega.{arith}
 use mathlib.Core.Bool.{Bool, true, false, true≢false}
 use lib.IntN.{ℤ}
@@ -11,12 +11,15 @@ use lib.Dec.{T, ltb→lt, lt→ltb}
 use lib.Pow.{pow-add, pow-pos, pow-mono}
 use lib.Ieee.{Float, nan, inf, fin, binary64, up, down, fits, lt}
 use lib.Ieee.Exact.{HasValue, odd-sign}
+use lib.Ieee.Order.{transfer}
 use lib.Ieee.Fits.{down-pos, nan-fits, inf-fits}
 use lib.Ieee.Positive.{num, den, den-pos, positive, positive-of-value, value→cross, first-pos}
 use lib.Ieee.Scale.{finite}
 use Rattle.arithmetic.specs.Nearest.{midpoint, rootTwice, IsRoot}
 use Rattle.arithmetic.specs.Sqrt.{nearestRoot, sqrt}
-use Rattle.arithmetic.proofs.Count.{Beside, Counted, counted-zero, counted, value-unique}
+use Rattle.arithmetic.proofs.Powers.{apart}
+use Rattle.arithmetic.proofs.Units.{unique}
+use Rattle.arithmetic.proofs.Count.{Beside, Counted, counted-zero, counted}
 use Rattle.arithmetic.proofs.Root.{Near}
 use Rattle.arithmetic.proofs.Width.{Wide, wide, wide-top, scaled, rootWide, sqrt-wide, scaled-lo, root-near, root-lo, root-fits}
 
@@ -96,11 +99,7 @@ sums ny dy nr dr a b d ey er =
     omega arith
 
 cross-lt : (ny dy nr dr a b d : ℕ) → ny * d ≡ a * dy → nr * d ≡ b * dr → 0 < d → ny * dr < nr * dy → a < b
-cross-lt ny dy nr dr a b d ey er D h =
-    let f : ny * d * dr ≡ a * dy * dr = ap (λ (z : ℕ). z * dr) ey in
-    let g : nr * d * dy ≡ b * dr * dy = ap (λ (z : ℕ). z * dy) er in
-    let m : ny * dr * d < nr * dy * d = mul-lt-mul-of-pos-right h D in
-    lt-of-mul-lt-mul-right (dy * dr) (omega arith)
+cross-lt ny dy nr dr a b d ey er D h = lt-of-not-le (λ g. not-le-of-lt h (transfer nr ny dr dy b a d d D D er ey (mul-le-mul-right d g)))
 
 -- ---- the order against a value above zero
 
@@ -150,11 +149,10 @@ module _ (x : Float) (a g : ℕ) (w : Wide x a g) (most : g ≤ 2097) where
     where
       powers : a * 2 ^ g * 2 ^ 1022 ≡ n * (2 ^ k * 2 ^ k)
       powers =
-          let e : g + 1022 ≡ g % 2 + 52 + (k + k) = omega arith in
-          mul-assoc a (2 ^ g) (2 ^ 1022)
-          ∙ ap (λ (z : ℕ). a * z) (sym (pow-add 2 g 1022) ∙ ap (λ (z : ℕ). 2 ^ z) e ∙ pow-add 2 (g % 2 + 52) (k + k) ∙ ap (λ (z : ℕ). z * 2 ^ (k + k)) (pow-add 2 (g % 2) 52) ∙ ap (λ (z : ℕ). 2 ^ (g % 2) * 2 ^ 52 * z) (pow-add 2 k k))
-          ∙ sym (mul-assoc a (2 ^ (g % 2) * 2 ^ 52) (2 ^ k * 2 ^ k))
-          ∙ ap (λ (z : ℕ). z * (2 ^ k * 2 ^ k)) (sym (mul-assoc a (2 ^ (g % 2)) (2 ^ 52)))
+          sym (apart a (g + 1022) g 1022 refl)
+          ∙ apart a (g + 1022) (g % 2 + 52) (k + k) (omega arith)
+          ∙ ap (λ (z : ℕ). z * 2 ^ (k + k)) (apart a (g % 2 + 52) (g % 2) 52 refl)
+          ∙ ap (λ (z : ℕ). n * z) (pow-add 2 k k)
 
   large : 2 ^ 537 ≤ q * 2 ^ k
   large = mul-le-mul (root-lo a g (w .lo) (w .hi)) (pow-mono {i = 485} {j = k} (omega arith))
@@ -277,7 +275,8 @@ root-unique x (fin false m e) nan p q = absurd (q .above-zero)
 root-unique x (fin false m e) (inf t) p q = absurd (q .above-zero)
 root-unique x (fin false m e) (fin true n d) p q = absurd (q .above-zero)
 root-unique x (fin false m e) (fin false n d) p q =
-    value-unique false m e n d (p .held) (q .held) (le-antisymm (not-above (not-less x n d m e q p)) (not-above (not-less x m e n d p q)))
+    unique binary64 (fin false m e) (fin false n d) false (m * up e) (down e) (down-pos e) (p .held) (q .held) (refl, refl)
+    (refl, le-antisymm (not-above (not-less x m e n d p q)) (not-above (not-less x n d m e q p)))
   where
     not-above : {a b : ℕ} → (b < a → ⊥) → a ≤ b
     not-above h = omega arith

@@ -1,20 +1,22 @@
 -- A value above zero at the full width of binary64: a * 2 ^ g in units of 2 ^ -1126, where a has 53 digits. Every value has one such form, and `sqrt` is a function of it.
 -- Assumes nothing.
-use mathlib.Core.Path.{_≡_, refl, sym, ap, _∙_, subst}
+use mathlib.Core.Path.{_≡_, refl, sym, ap, _∙_}
 use Prim.Native.Nat.{ℕ, zero, suc, _+_, _-_, _*_, _/_, _%_, _^_, _≤_, _<_}
-use native.Mathlib.Nat.{le-trans, le-of-eq, lt-of-lt-of-le, lt-of-le-of-lt, lt-of-not-le, mul-pos, mul-le-mul-right, mul-lt-mul-of-pos-right, lt-of-mul-lt-mul-right, mul-assoc, mul-right-comm, eq-of-mul-eq-mul-right}
+use native.Mathlib.Nat.{le-of-eq, lt-of-lt-of-le, lt-of-le-of-lt, zero-lt-suc, mul-pos, mul-lt-mul-of-pos-right, lt-of-mul-lt-mul-right, mul-right-comm, eq-of-mul-eq-mul-right}
 use native.Mathlib.Omega.{arith}
 use mathlib.Core.Bool.{true, false, true≢false}
 use lib.IntN.{ℤ}
+use lib.Count.{leading-top}
 use lib.Dec.{T, lit<}
 use lib.Pow.{pow-add, pow-pos, pow-mono, shl-lt}
 use lib.Ieee.{Float, nan, inf, fin, binary64, down, size, odd, fits}
-use lib.Ieee.Digits.{size-lt, size-le, size-reaches}
 use lib.Ieee.Exact.{HasValue}
 use lib.Ieee.Fits.{down-pos, odd-fits}
 use Rattle.arithmetic.specs.Sqrt.{nearestRoot, height, rootOf, sqrt}
+use Rattle.arithmetic.proofs.Powers.{apart, power-lt, size-is, shifted-ge, shifted-lt, shifted-size}
+use Rattle.arithmetic.proofs.Units.{rise, fitting, count}
 use Rattle.arithmetic.proofs.Root.{Near, nearest-near, near-ge, near-le}
-use Rattle.arithmetic.proofs.Count.{power-lt, size-of, fits-digits, fits-lowest, fits-highest, at-height, scale, not-zero, odd-shift}
+use Rattle.arithmetic.proofs.Count.{height-is, scale, not-zero, odd-shift}
 
 pub record Wide (x : Float) (a g : ℕ) : Type 0 where
   pub lo : 2 ^ 52 ≤ a
@@ -23,42 +25,29 @@ pub record Wide (x : Float) (a g : ℕ) : Type 0 where
 
 -- z places of the exponent go to the significand
 pub moved : (m h z : ℕ) → z ≤ 52 → m * 2 ^ z * 2 ^ (h + 52 - z) ≡ m * 2 ^ h * 2 ^ 52
-moved m h z l =
-    let e : z + (h + 52 - z) ≡ h + 52 = omega arith in
-    mul-assoc m (2 ^ z) (2 ^ (h + 52 - z))
-    ∙ ap (λ (x : ℕ). m * x) (sym (pow-add 2 z (h + 52 - z)) ∙ ap (λ (x : ℕ). 2 ^ x) e ∙ pow-add 2 h 52)
-    ∙ sym (mul-assoc m (2 ^ h) (2 ^ 52))
+moved m h z l = sym (apart m (h + 52) z (h + 52 - z) (omega arith)) ∙ apart m (h + 52) h 52 refl
 
 -- the digits that m lacks
 abbrev short : ℕ → ℕ
 short m = 53 - size m
 
-module _ (m : ℕ) (e : ℤ) (f : T (fits binary64 (fin false (suc m) e))) where
-  some : 0 < size (suc m)
-  some = lt-of-not-le (λ (g : size (suc m) ≤ 0). none (lt-of-lt-of-le (size-lt (suc m)) (pow-mono {i = size (suc m)} {j = 0} g)))
-    where
-      none : suc m < 1 → ⊥
-      none l = omega arith
-
-  enough : size (suc m) ≤ 53
-  enough = size-le (suc m) 53 (fits-digits false m e f)
-
-  pub wide : Wide (fin false (suc m) e) (suc m * 2 ^ short (suc m)) (height e + 52 - short (suc m))
-  wide =
-      let n = suc m in
-      let s = some in
-      let t = enough in
-      let i : size n - 1 + short n ≡ 52 = omega arith in
-      let j : size n + short n ≡ 53 = omega arith in
-      record {
-        lo = subst (λ (x : ℕ). x ≤ n * 2 ^ short n) (sym (pow-add 2 (size n - 1) (short n)) ∙ ap (λ (x : ℕ). 2 ^ x) i) (mul-le-mul-right (2 ^ short n) (size-reaches n (size n - 1) (omega arith)));
-        hi = subst (λ (x : ℕ). n * 2 ^ short n < 2 ^ x) j (shl-lt (size n) (short n) (size-lt n));
-        value = subst (λ (x : ℕ). HasValue (fin false n e) false x (2 ^ 1126)) (sym (moved n (height e) (short n) (omega arith))) (scale (fin false n e) false (n * 2 ^ height e) (2 ^ 1074) (2 ^ 52) (refl, at-height n e (fits-lowest false m e f)));
-      }
+pub wide : (m : ℕ) (e : ℤ) → T (fits binary64 (fin false (suc m) e)) → Wide (fin false (suc m) e) (suc m * 2 ^ short (suc m)) (height e + 52 - short (suc m))
+wide m e f =
+    let n = suc m in
+    let t = leading-top 53 n (zero-lt-suc m) (fitting binary64 false n e f .small) in
+    let j = t .0 in
+    let i = t .1 in
+    let s = size-is n j (t .2) (t .3) in
+    let k : j + short n ≡ 52 = omega arith in
+    record {
+      lo = shifted-ge n j (short n) (t .2) (t .3) 52 k;
+      hi = shifted-lt n j (short n) (t .2) (t .3) 52 k;
+      value = rw (moved n (height e) (short n) (omega arith), height-is e) (scale (fin false n e) false (n * 2 ^ rise binary64 e) (2 ^ 1074) (2 ^ 52) (count binary64 false n e f));
+    }
 
 form-unique : (a g b k : ℕ) → 2 ^ 52 ≤ a → a < 2 ^ 53 → 2 ^ 52 ≤ b → b < 2 ^ 53 → a * 2 ^ g ≡ b * 2 ^ k → (a ≡ b) × (g ≡ k)
 form-unique a g b k la ha lb hb h =
-    let e : g ≡ k = omega (arith, size-of a g 52 la ha, size-of b k 52 lb hb, ap size h) in (
+    let e : g ≡ k = omega (arith, shifted-size a 52 g la ha, shifted-size b 52 k lb hb, ap size h) in (
       eq-of-mul-eq-mul-right (2 ^ g) (pow-pos g) a b (h ∙ ap (λ (x : ℕ). b * 2 ^ x) (sym e)),
       e,
     )
@@ -97,10 +86,10 @@ module _ (a g : ℕ) where
   pub wide-top : (x : Float) → T (fits binary64 x) → Wide x a g → g ≤ 2097
   wide-top nan f w = absurd (w .value)
   wide-top (inf s) f w = absurd (w .value)
-  wide-top (fin s zero e) f w = absurd (not-zero s e false (a * 2 ^ g) (2 ^ 1126) (mul-pos (lt-of-lt-of-le (lit< tt) (w .lo)) (pow-pos g)) (w .value))
-  wide-top (fin s (suc m) e) f w =
-      let l : a * 2 ^ g < 2 ^ 2150 = lt-of-mul-lt-mul-right (down e) (subst (λ (x : ℕ). x < 2 ^ 2150 * down e) (w .value .1) (lt-of-lt-of-le (mul-lt-mul-of-pos-right (fits-highest s m e f) (pow-pos 1126)) (le-of-eq (mul-right-comm (2 ^ 1024) (down e) (2 ^ 1126))))) in
-      let h : 52 + g < 2150 = power-lt (52 + g) 2150 (lt-of-le-of-lt (le-trans (le-of-eq (pow-add 2 52 g)) (mul-le-mul-right (2 ^ g) (w .lo))) l) in
+  wide-top (fin s m e) f w =
+      let r = mul-lt-mul-of-pos-right (fitting binary64 s m e f .range) (pow-pos 1126) in
+      let l : a * 2 ^ g < 2 ^ 2150 = lt-of-mul-lt-mul-right (down e) (rw (← (w .value .1)) (lt-of-lt-of-le r (le-of-eq (mul-right-comm (2 ^ 1024) (down e) (2 ^ 1126))))) in
+      let h : 52 + g < 2150 = power-lt (52 + g) 2150 (lt-of-le-of-lt (shifted-ge a 52 g (w .lo) (w .hi) (52 + g) refl) l) in
       omega arith
 
 -- ---- the root of a number of full width

@@ -1,12 +1,12 @@
 -- A significand of at most 53 digits, shifted left by its leading zeros in a word of 64 beyond 11: it has 53 digits, and none is lost. Assumes nothing.
-use mathlib.Core.Path.{_≡_, sym, ap, _∙_, subst}
+use mathlib.Core.Path.{_≡_}
 use Prim.Native.Nat.{ℕ, suc, _+_, _-_, _*_, _%_, _^_, _≤_, _<_}
-use native.Mathlib.Nat.{lt-of-lt-of-le, lt-of-le-of-lt, mul-le-mul-right}
+use native.Mathlib.Nat.{lt-of-lt-of-le, lt-of-le-of-lt}
 use native.Mathlib.Omega.{arith}
 use lib.Count.{leadingZeros, leading-top}
 use lib.Dec.{lit≤}
-use lib.Pow.{pow-add, shl-lt, shl-exact}
-use Rattle.arithmetic.proofs.Count.{power-lt}
+use lib.Pow.{shl-exact}
+use Rattle.arithmetic.proofs.Powers.{power-lt, shifted-ge, shifted-lt}
 
 abbrev pub shift : ℕ → ℕ
 shift m = leadingZeros 64 m - 11
@@ -25,11 +25,10 @@ lead m p h =
     let e = t .1 in
     let l : j < 53 = power-lt j 53 (lt-of-le-of-lt (t .2) h) in
     let f : j + shift m ≡ 52 = omega arith in
-    let g : suc j + shift m ≡ 53 = omega arith in
     record {
       zeros = omega arith;
       few = omega arith;
       whole = shl-exact {a = m} (suc j) (shift m) 64 (t .3) (omega arith);
-      lo = subst (λ (x : ℕ). x ≤ m * 2 ^ shift m) (sym (pow-add 2 j (shift m)) ∙ ap (λ (x : ℕ). 2 ^ x) f) (mul-le-mul-right (2 ^ shift m) (t .2));
-      hi = subst (λ (x : ℕ). m * 2 ^ shift m < 2 ^ x) g (shl-lt (suc j) (shift m) (t .3));
+      lo = shifted-ge m j (shift m) (t .2) (t .3) 52 f;
+      hi = shifted-lt m j (shift m) (t .2) (t .3) 52 f;
     }

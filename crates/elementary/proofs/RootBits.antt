@@ -14,7 +14,8 @@ use lib.Ieee.Bits.{is-true, ofBits-fits, nanBits-above}
 use lib.Ieee.Compare.{differs-from-itself, nan-differs}
 use lib.Ieee.Exact.{HasValue, odd-sign}
 use Rattle.arithmetic.specs.Sqrt.{nearestRoot, sqrt}
-use Rattle.arithmetic.proofs.Count.{scale, not-zero, count-unique, plus-fields, count-at}
+use Rattle.arithmetic.proofs.Units.{unique}
+use Rattle.arithmetic.proofs.Count.{scale, not-zero, plus-fields, count-at}
 use Rattle.arithmetic.proofs.Width.{scaled, rootWide, sqrt-wide, scaled-half, root-lo, root-hi, root-fits}
 
 -- ---- where the root is no rounding
@@ -100,7 +101,7 @@ module _ (q k : ℕ) (lo : 2 ^ 52 ≤ q) (hi : q ≤ 2 ^ 53) (top : k ≤ 1533) 
           subst (λ (x : ℕ). HasValue (ofBits binary64 pattern) false (x * 2 ^ k) (2 ^ 1074)) e (count-at pattern small k (q - 2 ^ 52) (omega arith) (omega arith) (omega arith))
 
   pub pattern-is : T (fits binary64 (odd 54 false q k 1074)) → ofBits binary64 pattern ≡ odd 54 false q k 1074
-  pattern-is f = count-unique (ofBits binary64 pattern) (odd 54 false q k 1074) false (q * 2 ^ k) (ofBits-fits binary64 pattern) f pattern-count (odd-sign 54 false q k 1074)
+  pattern-is f = unique binary64 (ofBits binary64 pattern) (odd 54 false q k 1074) false (q * 2 ^ k) (2 ^ 1074) (pow-pos 1074) (ofBits-fits binary64 pattern) f pattern-count (odd-sign 54 false q k 1074)
 
 -- ---- the parts that `sqrt` finds, put together
 
