@@ -4,10 +4,10 @@ use Prim.Native.Nat.{ℕ, _-_, _*_, _^_, _≤_, _<_}
 use native.Mathlib.Nat.{mul-pos, one-mul, mul-mul-mul-comm}
 use native.Mathlib.Omega.{arith}
 use mathlib.Core.Bool.{Bool, true, false, _&&_, cond, false≢true}
+use borrow.Author.Tests.{lt-ltb}
 use lib.IntN.{ℤ, pos}
-use lib.Dec.{T, ltb, lt→ltb, lit<}
+use lib.Dec.{T, ltb, lit<}
 use lib.Ieee.{Float, nan, inf, fin, Format, prec, low, unlike, up, down, round, sum, add, mul, fits}
-use lib.Ieee.Bits.{is-true}
 use lib.Ieee.Exact.{HasValue}
 use lib.Ieee.Fits.{down-pos}
 use lib.Ieee.Positive.{first-pos}
@@ -42,7 +42,7 @@ zero-plus-at f m e h l =
     let b = m * up e * 1 in
     let k : 0 * 1 * down e < m * up e * 1 = omega arith in
     let g : m * up e ≡ m * up e * 1 - 0 * 1 * down e = omega arith in
-    ap (λ p. cond p (round f true (b - a) (1 * down e)) (round f (false && ltb b a) (a - b) (1 * down e))) (is-true (ltb a b) (lt→ltb a b k))
+    ap (λ p. cond p (round f true (b - a) (1 * down e)) (round f (false && ltb b a) (a - b) (1 * down e))) (lt-ltb a b k)
     ∙ round-back f (fin true m e) true (b - a) (1 * down e) (mul-pos (lit< tt) (down-pos e)) h (refl, ap (λ d. m * up e * d) (one-mul (down e)) ∙ ap (λ n. n * down e) g)
 
 pub zero-plus : (f : Format) (x : Float) (a c : ℕ) → T (fits f x) → HasValue x true a c → 0 < a → add f (fin false 0 (pos 0)) x ≡ x

@@ -1,19 +1,20 @@
 -- `%` of two values of a format: in units of the smallest value it is the remainder of their counts, exactly, so it is smaller than the divisor. A smaller value is its own remainder. Assumes nothing.
 use mathlib.Core.Path.{_≡_, refl, sym, ap, _∙_}
 use Prim.Native.Nat.{ℕ, zero, suc, _+_, _-_, _*_, _/_, _%_, _^_, _≤_, _<_, zero-le}
-use native.Mathlib.Nat.{le-of-lt, lt-of-lt-of-le, lt-of-le-of-lt, lt-irrefl, lt-of-not-le, add-mul, mul-comm, mul-assoc, mul-right-comm, mul-lt-mul-of-pos-right, mul-pos, mod-lt, mod-le, mod-eq-of-lt, div-add-mod'}
+use native.Mathlib.Nat.{le-of-lt, lt-of-lt-of-le, lt-of-le-of-lt, lt-irrefl, add-mul, mul-comm, mul-assoc, mul-right-comm, mul-lt-mul-of-pos-right, mul-pos, mod-lt, mod-le, mod-eq-of-lt, div-add-mod'}
 use native.Mathlib.Decide.{decLe}
 use native.Mathlib.Omega.{arith}
 use mathlib.Core.Bool.{Bool, cond}
 use lib.IntN.{ℤ}
 use lib.Dec.{T, eqb·suc-zero}
 use lib.Arith.{digits-mod}
-use lib.Pow.{pow-add, pow-pos}
+use lib.Pow.{pow-pos}
 use lib.Ieee.{nan, fin, Format, prec, low, up, down, round, rem, fits}
 use lib.Ieee.Exact.{round-exact}
 use lib.Ieee.Fits.{up-pos, down-pos}
 use lib.Ieee.Positive.{first-pos}
 use lib.Ieee.Scale.{round-same}
+use Rattle.arithmetic.proofs.Powers.{apart}
 use Rattle.arithmetic.proofs.Units.{rise, Units, fitting, count, count-lt, round-back}
 
 -- ---- `%` of whole numbers
@@ -34,20 +35,17 @@ record Short (p a : ℕ) : Type 0 where
 mod-short : (p m j n k : ℕ) → m < 2 ^ p → n < 2 ^ p → 0 < n → Short p (m * 2 ^ j % (n * 2 ^ k))
 mod-short p m j n k mh nh N = go (decLe k j)
   where
-    apart : (w i l : ℕ) → l ≤ i → w * 2 ^ i ≡ w * 2 ^ (i - l) * 2 ^ l
-    apart w i l g = let e : i ≡ i - l + l = omega arith in ap (λ x. w * 2 ^ x) e ∙ ap (λ x. w * x) (pow-add 2 (i - l) l) ∙ sym (mul-assoc w (2 ^ (i - l)) (2 ^ l))
-
     go : Dec (k ≤ j) → Short p (m * 2 ^ j % (n * 2 ^ k))
     go (yes g) =
         let w = m * 2 ^ (j - k) in
-        record { digits = w % n; zeros = k; small = lt-of-lt-of-le (mod-lt w N) (le-of-lt nh); is = ap (λ x. x % (n * 2 ^ k)) (apart m j k g) ∙ mod-scale w n (2 ^ k) N (pow-pos k) }
+        record { digits = w % n; zeros = k; small = lt-of-lt-of-le (mod-lt w N) (le-of-lt nh); is = ap (λ x. x % (n * 2 ^ k)) (apart m j (j - k) k (omega arith)) ∙ mod-scale w n (2 ^ k) N (pow-pos k) }
     go (no g) =
         let w = n * 2 ^ (k - j) in
         record {
           digits = m % w;
           zeros = j;
           small = lt-of-le-of-lt (mod-le m w) mh;
-          is = ap (λ x. m * 2 ^ j % x) (apart n k j (le-of-lt (lt-of-not-le g))) ∙ mod-scale m w (2 ^ j) (mul-pos N (pow-pos (k - j))) (pow-pos j);
+          is = ap (λ x. m * 2 ^ j % x) (apart n k (k - j) j (omega arith)) ∙ mod-scale m w (2 ^ j) (mul-pos N (pow-pos (k - j))) (pow-pos j);
         }
 
 -- ---- `%` of values

@@ -1,13 +1,14 @@
 -- The whole root. `rootFrom` finds the one number whose square is at most n while the next one's is above it, and `nearestRoot` is that number or the next:
 -- the one on whose either side the midpoint's square lies beyond n. Assumes nothing.
-use mathlib.Core.Path.{_≡_, refl, sym, ap, _∙_, subst}
+use mathlib.Core.Path.{_≡_, sym, ap, _∙_, subst}
 use Prim.Native.Nat.{ℕ, zero, suc, _+_, _-_, _*_, _^_, _≤_, _<_, zero-le}
-use native.Mathlib.Nat.{le-trans, le-antisymm, le-of-suc-le-suc, lt-of-not-le, not-le-of-lt, mul-le-mul, two-pow-succ}
+use native.Mathlib.Nat.{lt-of-le-of-lt, le-antisymm, le-of-suc-le-suc, lt-of-not-le, not-le-of-lt, mul-le-mul, two-pow-succ}
 use native.Mathlib.Decide.{decLe}
 use native.Mathlib.Numerals.{add-one}
 use native.Mathlib.Omega.{arith}
 use mathlib.Core.Bool.{Bool, true, false, not, cond}
-use lib.Dec.{T, leb, ltb, leb→le, nleb→lt, ltb→lt, nltb→le}
+use borrow.Author.Tests.{lt-ltb, le-ltb}
+use lib.Dec.{T, leb, ltb, leb→le, nleb→lt}
 use Rattle.arithmetic.specs.Sqrt.{rootFrom, nearestRoot}
 
 -- r is the whole part of n's root
@@ -18,12 +19,12 @@ pub lt-of-squares : (a b : ℕ) → a * a < b * b → a < b
 lt-of-squares a b h = lt-of-not-le (λ (g : b ≤ a). not-le-of-lt h (mul-le-mul g g))
 
 floor-le : (n r s : ℕ) → Floor n r → Floor n s → r ≤ s
-floor-le n r s f g = le-of-suc-le-suc (lt-of-not-le (λ (h : suc s ≤ r). not-le-of-lt (g .1) (le-trans (mul-le-mul h h) (f .0))))
+floor-le n r s f g = le-of-suc-le-suc (lt-of-squares r (suc s) (lt-of-le-of-lt (f .0) (g .1)))
 
-pub floor-unique : (n r s : ℕ) → Floor n r → Floor n s → r ≡ s
+floor-unique : (n r s : ℕ) → Floor n r → Floor n s → r ≡ s
 floor-unique n r s f g = le-antisymm (floor-le n r s f g) (floor-le n s r g f)
 
-pub rootFrom-floor : (k n c : ℕ) → c * c ≤ n → n < (c + 2 ^ k) * (c + 2 ^ k) → Floor n (rootFrom k n c)
+rootFrom-floor : (k n c : ℕ) → c * c ≤ n → n < (c + 2 ^ k) * (c + 2 ^ k) → Floor n (rootFrom k n c)
 unfolding rootFrom
 rootFrom-floor zero n c lo hi = (lo, subst (λ (x : ℕ). n < x * x) (add-one c) hi)
 rootFrom-floor (suc k) n c lo hi = go (leb (d * d) n) (leb→le (d * d) n) (nleb→lt (d * d) n) (rootFrom-floor k n)
@@ -50,28 +51,15 @@ module _ (k n : ℕ) (small : n < 2 ^ k * 2 ^ k) where
       from-zero x h = omega arith
 
   module _ (r : ℕ) (f : Floor n r) where
-    test : Bool
-    test = ltb ((2 * r + 1) * (2 * r + 1)) (4 * n)
-
-    nearest-by : nearestRoot k n ≡ cond test (suc r) r
-    unfolding nearestRoot test
+    pub nearest-by : nearestRoot k n ≡ cond (ltb ((2 * r + 1) * (2 * r + 1)) (4 * n)) (suc r) r
+    unfolding nearestRoot
     nearest-by = ap (λ (x : ℕ). cond (ltb ((2 * x + 1) * (2 * x + 1)) (4 * n)) (suc x) x) (floor-unique n (rootFrom k n 0) r root-floor f)
 
     pub rounds-up : r * r + r < n → nearestRoot k n ≡ suc r
-    unfolding test
-    rounds-up h = nearest-by ∙ go test (nltb→le ((2 * r + 1) * (2 * r + 1)) (4 * n))
-      where
-        go : (t : Bool) → (T (not t) → 4 * n ≤ (2 * r + 1) * (2 * r + 1)) → cond t (suc r) r ≡ suc r
-        go true g = refl
-        go false g = let l = g tt in absurd (omega arith)
+    rounds-up h = nearest-by ∙ ap (λ t. cond t (suc r) r) (lt-ltb ((2 * r + 1) * (2 * r + 1)) (4 * n) (omega arith))
 
     pub rounds-down : n ≤ r * r + r → nearestRoot k n ≡ r
-    unfolding test
-    rounds-down h = nearest-by ∙ go test (ltb→lt ((2 * r + 1) * (2 * r + 1)) (4 * n))
-      where
-        go : (t : Bool) → (T t → (2 * r + 1) * (2 * r + 1) < 4 * n) → cond t (suc r) r ≡ r
-        go true g = let l = g tt in absurd (omega arith)
-        go false g = refl
+    rounds-down h = nearest-by ∙ ap (λ t. cond t (suc r) r) (le-ltb ((2 * r + 1) * (2 * r + 1)) (4 * n) (omega arith))
 
   -- for an n above 0
   pub nearest-near : 0 < n → Near n (nearestRoot k n)

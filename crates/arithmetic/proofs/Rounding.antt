@@ -7,7 +7,7 @@ use native.Mathlib.Omega.{arith}
 use mathlib.Core.Bool.{Bool, true, false, not, cond}
 use lib.IntN.{ℤ}
 use lib.Dec.{T, ltb}
-use lib.Pow.{pow-add, pow-pos, shl-lt}
+use lib.Pow.{pow-pos, shl-lt}
 use lib.Ieee.{Float, inf, fin, Format, prec, emax, low, up, down, odd, units, round, neg, sum, add, fits}
 use lib.Ieee.Digits.{size-reaches}
 use lib.Ieee.Exact.{HasValue, units-val, round-exact}
@@ -15,6 +15,7 @@ use lib.Ieee.Fits.{round-is, down-pos}
 use lib.Ieee.Nearest.{closest, closest-mono}
 use lib.Ieee.Order.{drop, kept}
 use lib.Ieee.Scale.{round-same, grid, overflow}
+use Rattle.arithmetic.proofs.Powers.{apart}
 use Rattle.arithmetic.proofs.Units.{rise, Units, fitting, count, count-below}
 
 -- ---- the sign
@@ -49,10 +50,9 @@ grid-le p n c q j C qh h = go (decLe (drop p n c) j)
 
     go : Dec (k ≤ j) → kept p n c * 2 ^ k ≤ q * 2 ^ j
     go (yes g) =
-        let e : j ≡ j - k + k = omega arith in
         let w = q * 2 ^ (j - k) in
         let u = c * 2 ^ k in
-        let f : q * 2 ^ j ≡ w * 2 ^ k = ap (λ i. q * 2 ^ i) e ∙ ap (λ i. q * i) (pow-add 2 (j - k) k) ∙ sym (mul-assoc q (2 ^ (j - k)) (2 ^ k)) in
+        let f : q * 2 ^ j ≡ w * 2 ^ k = apart q j (j - k) k (omega arith) in
         let l : n ≤ w * u = le-trans h (le-of-eq (ap (λ i. i * c) f ∙ mul-assoc w (2 ^ k) c ∙ ap (λ i. w * i) (mul-comm (2 ^ k) c))) in
         let U : 0 < u = mul-pos C (pow-pos k) in
         rw f (mul-le-mul-right (2 ^ k) (le-trans (closest-mono n u (w * u) u U U (mul-le-mul-right u l)) (le-of-eq (closest-self w u U))))

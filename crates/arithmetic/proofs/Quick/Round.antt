@@ -2,18 +2,18 @@
 -- `qround-is`: whatever the guess, the result is `round`'s. Assumes nothing.
 use mathlib.Core.Path.{_≡_, refl, sym, ap, _∙_}
 use Prim.Native.Nat.{ℕ, zero, suc, _+_, _-_, _*_, _/_, _%_, _^_, _≤_, _<_, min, compare}
-use native.Mathlib.Nat.{le-trans, lt-of-lt-of-le, lt-of-le-of-lt, lt-of-not-le, not-le-of-lt, zero-lt-suc, add-zero, add-suc, suc-add, mul-assoc, mul-comm, mul-left-comm, mul-le-mul, mul-pos, pow-succ', div-one, div-zero, div-div-eq-div-mul, le-div-iff-mul-le, div-lt-iff-lt-mul}
+use native.Mathlib.Nat.{le-trans, lt-of-le-of-lt, zero-lt-suc, add-zero, add-suc, suc-add, mul-assoc, mul-comm, mul-left-comm, mul-le-mul, mul-pos, pow-succ', div-one, div-zero, div-div-eq-div-mul, le-div-iff-mul-le, div-lt-iff-lt-mul}
 use native.Mathlib.Omega.{arith}
 use mathlib.Core.Bool.{Bool, true, false}
+use borrow.Author.Tests.{lt-ltb}
 use lib.IntN.{pos}
-use lib.Dec.{T, leb, ltb, eqb, lt→ltb, eqb→eq, lit<}
+use lib.Dec.{T, leb, eqb, eqb→eq, lit<}
 use lib.Count.{trailingZeros, under}
 use lib.Pow.{pow-add, pow-pos, pow-mono}
 use lib.Ieee.{Float, fin, binary64, size, odd, units, round, nearest, minus}
-use lib.Ieee.Digits.{size-lt, size-le}
 use lib.Ieee.Fits.{round-is, nearest-le}
-use lib.Ieee.Bits.{is-true}
 use lib.Ieee.Nearest.{closest, closest-same, div-same}
+use Rattle.arithmetic.proofs.Powers.{size-is}
 
 -- what is x where a test passes and y otherwise is z, if x is z where the test passes and y is z
 pub either : {X : Type 0} (t : Bool) {x y z : X} → (T t → x ≡ z) → y ≡ z → _≡_ {A = X} (elim t [ true ↦ x | false ↦ y ]) z
@@ -56,15 +56,15 @@ sized : (w k : ℕ) → w / 2 ^ k / 2 ^ 52 ≡ 1 → size w - 53 ≡ k
 sized w k e =
     let lo : 2 ^ 52 ≤ w / 2 ^ k = omega arith in
     let hi : w / 2 ^ k < 2 ^ 53 = omega arith in
-    let a : size w ≤ 53 + k = size-le w (53 + k) (rw pow-add (div-lt-iff-lt-mul (pow-pos k) .0 hi)) in
     let b : 2 ^ (52 + k) ≤ w = rw pow-add (le-div-iff-mul-le (pow-pos k) .0 lo) in
-    let c : 52 + k < size w = lt-of-not-le (λ (g : size w ≤ 52 + k). not-le-of-lt (lt-of-lt-of-le (size-lt w) (pow-mono g)) b) in
+    let a : w < 2 ^ suc (52 + k) = rw (← suc-add 52 k, pow-add) (div-lt-iff-lt-mul (pow-pos k) .0 hi) in
+    let c = size-is w (52 + k) b a in
     omega arith
 
 -- what is kept is at most 2 ^ 53, so it does not overflow
 units-is : (s : Bool) (q k : ℕ) → q ≤ 2 ^ 53 → k ≤ 1074 → units binary64 s q k ≡ odd 54 s q k 1074
 unfolding units
-units-is s q k a b = rw (is-true (ltb (q * 2 ^ k) (2 ^ 2098)) (lt→ltb (q * 2 ^ k) (2 ^ 2098) (lt-of-le-of-lt (mul-le-mul a (pow-mono b)) (lit< tt))))
+units-is s q k a b = rw (lt-ltb (q * 2 ^ k) (2 ^ 2098) (lt-of-le-of-lt (mul-le-mul a (pow-mono b)) (lit< tt)))
 
 den-pos : (n d : ℕ) → n / d / 2 ^ 52 ≡ 1 → 0 < d
 den-pos n zero e = let z : _≡_ {A = ℕ} 0 1 = rw div-zero at e in omega arith

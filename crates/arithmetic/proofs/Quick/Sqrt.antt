@@ -1,31 +1,15 @@
 -- The square root, computed faster: Newton's method gives a whole number r, and r is tested by the squares of r and r + 1.
 -- `qsqrt-is`: whatever the candidate, the result is `sqrt`'s. Assumes nothing.
-use mathlib.Core.Path.{_≡_, refl}
-use Prim.Native.Nat.{ℕ, zero, suc, _+_, _-_, _*_, _/_, _%_, _^_, _≤_, _<_, zero-le}
-use native.Mathlib.Nat.{lt-of-le-of-lt, lt-of-not-le, not-le-of-lt, mul-le-mul, two-pow-succ}
-use native.Mathlib.Omega.{arith}
-use mathlib.Core.Bool.{Bool, true, false, not, _&&_, cond}
-use lib.Dec.{T, leb, ltb, leb→le, ltb→lt, nleb→lt}
+use mathlib.Core.Path.{_≡_, refl, sym}
+use Prim.Native.Nat.{ℕ, zero, suc, _+_, _-_, _*_, _/_, _%_, _^_, _≤_, _<_}
+use native.Mathlib.Nat.{lt-of-lt-of-le, mul-le-mul}
+use mathlib.Core.Bool.{Bool, true, false, _&&_, cond}
+use lib.Dec.{T, leb, ltb, leb→le, ltb→lt}
 use lib.Ieee.{Float, nan, inf, fin, size}
 use lib.Ieee.Fits.{and-l, and-r}
-use Rattle.arithmetic.specs.Sqrt.{rootFrom, nearestRoot, height, rootOf, sqrt}
+use Rattle.arithmetic.specs.Sqrt.{nearestRoot, height, rootOf, sqrt}
+use Rattle.arithmetic.proofs.Root.{nearest-by}
 use Rattle.arithmetic.proofs.Quick.Round.{either, qodd, qodd-is}
-
-square-lt : {a b : ℕ} → a * a < b * b → a < b
-square-lt h = lt-of-not-le (λ g. not-le-of-lt h (mul-le-mul g g))
-
--- `rootFrom` finds the whole part r of the root of n, if r is at least c and below c + 2 ^ k
-rootFrom-is : (k n c r : ℕ) → r * r ≤ n → n < suc r * suc r → c ≤ r → r < c + 2 ^ k → rootFrom k n c ≡ r
-unfolding rootFrom
-rootFrom-is zero n c r a b lo hi = omega arith
-rootFrom-is (suc k) n c r a b lo hi = go (leb (d * d) n) (leb→le (d * d) n) (nleb→lt (d * d) n) (λ e. rootFrom-is k n e r a b)
-  where
-    d : ℕ
-    d = c + 2 ^ k
-
-    go : (t : Bool) → (T t → d * d ≤ n) → (T (not t) → n < d * d) → ((e : ℕ) → e ≤ r → r < e + 2 ^ k → rootFrom k n e ≡ r) → rootFrom k n (cond t d c) ≡ r
-    go true h g ih = ih d (omega (arith, square-lt (lt-of-le-of-lt (h tt) b))) (omega (arith, two-pow-succ k))
-    go false h g ih = ih c lo (square-lt (lt-of-le-of-lt a (g tt)))
 
 -- ---- the nearest whole number
 
@@ -62,8 +46,9 @@ qroot-is k n = either (a && (b && c)) right refl
     right : T (a && (b && c)) → _≡_ {A = ℕ} (cond (ltb ((2 * r + 1) * (2 * r + 1)) (4 * n)) (suc r) r) (nearestRoot k n)
     right t =
         let h = and-r a (b && c) t in
-        let hi : r < 0 + 2 ^ k = omega (arith, ltb→lt r (2 ^ k) (and-r b c h)) in
-        rw (rootFrom-is k n 0 r (leb→le (r * r) n (and-l a (b && c) t)) (ltb→lt n (suc r * suc r) (and-l b c h)) zero-le hi)
+        let up : n < suc r * suc r = ltb→lt n (suc r * suc r) (and-l b c h) in
+        let top : suc r ≤ 2 ^ k = ltb→lt r (2 ^ k) (and-r b c h) in
+        sym (nearest-by k n (lt-of-lt-of-le up (mul-le-mul top top)) r (leb→le (r * r) n (and-l a (b && c) t), up))
 
 -- ---- the root of a float
 
