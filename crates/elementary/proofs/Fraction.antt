@@ -4,13 +4,13 @@ use Prim.Native.Nat.{ℕ, zero, suc, _+_, _*_, _/_, _%_, _^_, _≤_, _<_}
 use native.Mathlib.Nat.{le-of-suc-le-suc, lt-of-lt-of-le, mul-one, mul-le-mul-right, mod-one, zero-mod, mul-comm, mul-mod-left, div-lt-iff-lt-mul, div-add-mod', add-div-right, div-div-eq-div-mul}
 use native.Mathlib.Omega.{arith}
 use mathlib.Core.Bool.{Bool, true, false, not, _&&_, true≢false, false≢true}
+use borrow.Author.Tests.{not-false, ltb-true, lt-ltb, le-ltb, eq-eqb, ne-eqb}
 use lib.IntN.{ℤ, pos, negsuc}
-use lib.Dec.{T, eqb, ltb, ltb→lt, lt→ltb, nltb→le, eqb→eq, T-not, not-T, lit<, lit≤}
-use lib.Arith.{digits-div, le→nltb}
+use lib.Dec.{T, eqb, nltb→le, eqb→eq, T-not, lit<, lit≤}
+use lib.Arith.{digits-div}
 use lib.Pow.{pow-mono}
 use lib.Ieee.{Float, nan, inf, fin, binary64, up, down, round, add, lt, eq, ofInt, ofBits, toUnsigned, fits}
 use lib.Ieee.Back.{round-whole as float-of-whole}
-use lib.Ieee.Bits.{is-true, is-false}
 use lib.Ieee.Exact.{HasValue}
 use lib.Ieee.Fits.{eq→eqb, and-i, and-l, down-pos}
 use lib.Ieee.Positive.{num, den, den-pos}
@@ -31,25 +31,25 @@ pub floor-whole : (x : Float) → num x % den x ≡ 0 → x ≡ floor ieee x
 unfolding floor
 floor-whole nan z = refl
 floor-whole (inf s) z = refl
-floor-whole (fin s m e) z = rw (is-true (eqb (m * up e % down e) 0) (eq→eqb z), floor)
+floor-whole (fin s m e) z = rw (eq-eqb (m * up e % down e) 0 z, floor)
 
 pub floor-part : (x : Float) → Fraction x → round binary64 (negative x) (floorSize (negative x) (num x) (den x)) 1 ≡ floor ieee x
 unfolding floor negative
 floor-part nan z = absurd (z refl)
 floor-part (inf s) z = absurd (z refl)
-floor-part (fin s m e) z = rw (is-false (eqb (m * up e % down e) 0) (not-T (eqb (m * up e % down e) 0) (λ t. z (eqb→eq (m * up e % down e) 0 t))), floor)
+floor-part (fin s m e) z = rw (ne-eqb (m * up e % down e) 0 z, floor)
 
 pub round-whole : (x : Float) → num x % den x ≡ 0 → x ≡ roundAway ieee x
 unfolding roundAway
 round-whole nan z = refl
 round-whole (inf s) z = refl
-round-whole (fin s m e) z = rw (is-true (eqb (m * up e % down e) 0) (eq→eqb z), roundAway)
+round-whole (fin s m e) z = rw (eq-eqb (m * up e % down e) 0 z, roundAway)
 
 pub round-part : (x : Float) → Fraction x → round binary64 (negative x) (roundSize (num x) (den x)) 1 ≡ roundAway ieee x
 unfolding roundAway negative
 round-part nan z = absurd (z refl)
 round-part (inf s) z = absurd (z refl)
-round-part (fin s m e) z = rw (is-false (eqb (m * up e % down e) 0) (not-T (eqb (m * up e % down e) 0) (λ t. z (eqb→eq (m * up e % down e) 0 t))), roundAway)
+round-part (fin s m e) z = rw (ne-eqb (m * up e % down e) 0 z, roundAway)
 
 -- ---- the tests
 
@@ -78,14 +78,10 @@ below-at : (x : Float) → lt (abs x) 2^52 ≡ true → Below x (abs x)
 unfolding lt abs
 below-at nan l = absurd (false≢true l)
 below-at (inf s) l = absurd (false≢true l)
-below-at (fin s m e) l = record { value = (refl, refl); small = let g : m * up e * 1 < 2 ^ 52 * down e = ltb→lt (m * up e * 1) (2 ^ 52 * down e) (rw l tt) in omega arith }
-
-pub was-less : (b : Bool) → not b ≡ false → b ≡ true
-was-less true e = refl
-was-less false e = absurd (true≢false e)
+below-at (fin s m e) l = record { value = (refl, refl); small = let g : m * up e * 1 < 2 ^ 52 * down e = ltb-true (m * up e * 1) (2 ^ 52 * down e) l in omega arith }
 
 pub below : (x a : Float) → a ≡ abs x → not (lt a 2^52) ≡ false → Below x a
-below x a e l = subst (Below x) (sym e) (below-at x (ap (λ y. lt y 2^52) (sym e) ∙ was-less (lt a 2^52) l))
+below x a e l = subst (Below x) (sym e) (below-at x (ap (λ y. lt y 2^52) (sym e) ∙ not-false (lt a 2^52) l))
 
 -- what has a fraction is below 2 ^ 52
 pub fraction-small : (x : Float) → T (fits binary64 x) → Fraction x → num x < 2 ^ 52 * den x
@@ -118,8 +114,8 @@ pub sign-is : (x : Float) (b : Bool) → Fraction x → lt x (ofBits binary64 0)
 unfolding lt negative ofBits
 sign-is nan b z l = absurd (z refl)
 sign-is (inf s) b z l = absurd (z refl)
-sign-is (fin true m e) b z l = sym (is-true (ltb 0 (m * up e * 1 + 0 * 1 * down e)) (lt→ltb 0 (m * up e * 1 + 0 * 1 * down e) (omega (arith, fraction-pos (m * up e) (down e) z)))) ∙ l
-sign-is (fin false m e) b z l = sym (is-false (ltb (m * up e * 1) (0 * 1 * down e)) (le→nltb (m * up e * 1) (0 * 1 * down e) (omega arith))) ∙ l
+sign-is (fin true m e) b z l = sym (lt-ltb 0 (m * up e * 1 + 0 * 1 * down e) (omega (arith, fraction-pos (m * up e) (down e) z))) ∙ l
+sign-is (fin false m e) b z l = sym (le-ltb (m * up e * 1) (0 * 1 * down e) (omega arith)) ∙ l
 
 -- ---- the sizes
 

@@ -2,7 +2,7 @@
 use mathlib.Core.Path.{_≡_, refl, sym, ap, _∙_}
 use mathlib.Core.Bool.{true, false, true≢false, false≢true}
 use Prim.Native.Nat.{ℕ, zero, suc}
-use lib.Ieee.{Float, nan, inf, fin, binary64, ofBits, mul, div, rem, neg}
+use lib.Ieee.{Float, nan, inf, fin, binary64, mul, rem, neg}
 use Rattle.answer.specs.Number.{isFinite}
 use Rattle.arithmetic.specs.Arith.{ieee}
 use Rattle.elementary.specs.Constants.{TAU, FRAC-2-PI, sineFirst, sineRest, cosineFirst, cosineRest}
@@ -37,11 +37,6 @@ module _ (k : ℕ) (r : Float) where
       go (suc zero) a b c = absurd (b refl)
       go (suc (suc zero)) a b c = absurd (c refl)
       go (suc (suc (suc j))) a b c = unfold sinCosReduced in refl
-
--- NaN as the code makes it
-pub zero-by-zero : div binary64 (ofBits binary64 0) (ofBits binary64 0) ≡ nan
-unfolding div ofBits
-zero-by-zero = refl
 
 module _ (x : Float) where
   pub otherwise-nan : isFinite x ≡ false → sinCos ieee x ≡ record { sin = nan; cos = nan }

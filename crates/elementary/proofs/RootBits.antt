@@ -1,17 +1,17 @@
--- The square root by bit patterns: what `sqrt` gives at a NaN, at the zeros, from infinity's pattern on and below zero, and the pattern of the root of any other value.
+-- The square root by bit patterns: what `sqrt` gives from infinity's pattern on and below zero, and the pattern of the root of any other value.
 -- Assumes nothing.
 use mathlib.Core.Path.{_≡_, refl, sym, ap, _∙_, subst}
 use mathlib.Core.Logic.{_⊎_, inl, inr}
 use Prim.Native.Nat.{ℕ, zero, suc, _+_, _-_, _*_, _/_, _%_, _^_, _≤_, _<_}
 use native.Mathlib.Nat.{eq-or-lt-of-le, mod-eq-of-lt, mul-pos, pow-succ'}
 use native.Mathlib.Omega.{arith}
-use mathlib.Core.Bool.{Bool, true, false, not, cond, true≢false, false≢true}
+use mathlib.Core.Bool.{Bool, true, false, not, cond, false≢true}
+use borrow.Author.Tests.{le-leb}
 use lib.Arith.{le→nltb}
-use lib.Dec.{T, leb, eqb, le→leb}
+use lib.Dec.{T, eqb}
 use lib.Pow.{pow-pos}
-use lib.Ieee.{Float, nan, inf, fin, binary64, odd, div, ne, ofFields, ofBits, nanBits, isNan, fits}
-use lib.Ieee.Bits.{is-true, ofBits-fits, nanBits-above}
-use lib.Ieee.Compare.{differs-from-itself, nan-differs}
+use lib.Ieee.{Float, nan, inf, fin, binary64, odd, ofFields, ofBits, nanBits, fits}
+use lib.Ieee.Bits.{ofBits-fits, nanBits-above}
 use lib.Ieee.Exact.{HasValue, odd-sign}
 use Rattle.arithmetic.specs.Sqrt.{nearestRoot, sqrt}
 use Rattle.arithmetic.proofs.Units.{unique}
@@ -19,28 +19,6 @@ use Rattle.arithmetic.proofs.Count.{scale, not-zero, plus-fields, count-at}
 use Rattle.arithmetic.proofs.Width.{scaled, rootWide, sqrt-wide, scaled-half, root-lo, root-hi, root-fits}
 
 -- ---- where the root is no rounding
-
-pub at-nan : (x : Float) → ne x x ≡ true → x ≡ sqrt x
-unfolding sqrt
-at-nan x e = let n : x ≡ nan = differs-from-itself x (subst T (sym e) tt) in n ∙ ap sqrt (sym n)
-
-pub number : (x : Float) → ne x x ≡ false → T (not (isNan x))
-unfolding isNan
-number nan e = absurd (true≢false (sym nan-differs ∙ e))
-number (inf s) e = tt
-number (fin s m d) e = tt
-
-pub zero-by-zero : div binary64 (ofBits binary64 0) (ofBits binary64 0) ≡ nan
-unfolding div ofBits
-zero-by-zero = refl
-
-pub at-zero : ofBits binary64 0 ≡ sqrt (ofBits binary64 0)
-unfolding sqrt ofBits
-at-zero = refl
-
-pub at-minus-zero : ofBits binary64 (2 ^ 63) ≡ sqrt (ofBits binary64 (2 ^ 63))
-unfolding sqrt ofBits
-at-minus-zero = refl
 
 -- infinity's pattern, or a NaN's
 pub at-top : (b : ℕ) → 2047 * 2 ^ 52 ≤ b → b < 2 ^ 63 → ofBits binary64 b ≡ sqrt (ofBits binary64 b)
@@ -75,7 +53,7 @@ negative-fields (suc x) t h = go (eqb (suc x) 2047) (eqb t 0)
 pub below-zero : (b : ℕ) → 2 ^ 63 < b → b < 2 ^ 64 → nan ≡ sqrt (ofBits binary64 b)
 unfolding ofBits
 below-zero b lo hi =
-    rw (is-true (leb (2 ^ 63) b) (le→leb (2 ^ 63) b (omega arith))) (negative-fields (b % 2 ^ 63 / 2 ^ 52) (b % 2 ^ 52) (λ p q. omega arith))
+    rw (le-leb (2 ^ 63) b (omega arith)) (negative-fields (b % 2 ^ 63 / 2 ^ 52) (b % 2 ^ 52) (λ p q. omega arith))
 
 -- ---- the pattern of q * 2 ^ k of the smallest values, q having 53 digits or being 2 ^ 53
 

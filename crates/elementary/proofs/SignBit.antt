@@ -1,12 +1,12 @@
--- The sign bit: the pattern of a value is that of its size, which is below 2 ^ 63, and 2 ^ 63 more where the value is negative. A NaN is told by `x != x`. Assumes nothing.
+-- The sign bit: the pattern of a value is that of its size, which is below 2 ^ 63, and 2 ^ 63 more where the value is negative. A NaN is told by `x != x` and made by 0 / 0. Assumes nothing.
 use mathlib.Core.Path.{_≡_, refl, sym, ap, _∙_}
 use Prim.Native.Nat.{ℕ, zero, suc, _+_, _%_, _^_, _<_}
 use native.Mathlib.Omega.{arith}
 use mathlib.Core.Bool.{Bool, true, false, not, cond, true≢false}
-use lib.Dec.{T, leb, le→leb}
-use lib.Arith.{lt→nleb}
-use lib.Ieee.{Float, nan, inf, fin, binary64, neg, ne, ofBits, toBits, nanBits, isNan, fits}
-use lib.Ieee.Bits.{ofBits-toBits, toBits-lt, nanBits-is, is-true, is-false}
+use borrow.Author.Tests.{le-leb, lt-leb}
+use lib.Dec.{T, leb}
+use lib.Ieee.{Float, nan, inf, fin, binary64, div, neg, ne, ofBits, toBits, nanBits, isNan, fits}
+use lib.Ieee.Bits.{ofBits-toBits, toBits-lt, nanBits-is}
 use lib.Ieee.Compare.{differs-from-itself, nan-differs}
 use lib.Ieee.Fits.{neg-fits, inf-fits}
 use Rattle.elementary.specs.Signs.{abs, negative}
@@ -21,6 +21,13 @@ unfolding isNan
 is-number nan e = absurd (true≢false (sym nan-differs ∙ e))
 is-number (inf s) e = tt
 is-number (fin s m d) e = tt
+
+-- NaN as the code makes it
+pub zero-by-zero : div binary64 (ofBits binary64 0) (ofBits binary64 0) ≡ nan
+unfolding div ofBits
+zero-by-zero = refl
+
+-- ---- the size
 
 pub abs-fits : (x : Float) → T (fits binary64 x) → T (fits binary64 (abs x))
 unfolding abs fits
@@ -61,8 +68,8 @@ size-below (inf s) h n = omega (arith, two-parts (inf true) tt, toBits-lt binary
 size-below (fin s m e) h n = omega (arith, two-parts (fin true m e) tt, toBits-lt binary64 (fin true m e) (neg-fits binary64 (fin false m e) (abs-fits (fin s m e) h)))
 
 parts : (b : Bool) (p a : ℕ) → p ≡ cond b (2 ^ 63) 0 + a → a < 2 ^ 63 → (p % 2 ^ 63 ≡ a) × (leb (2 ^ 63) p ≡ b)
-parts true p a e h = (omega arith, is-true (leb (2 ^ 63) p) (le→leb (2 ^ 63) p (omega arith)))
-parts false p a e h = (omega arith, is-false (leb (2 ^ 63) p) (lt→nleb (2 ^ 63) p (omega arith)))
+parts true p a e h = (omega arith, le-leb (2 ^ 63) p (omega arith))
+parts false p a e h = (omega arith, lt-leb (2 ^ 63) p (omega arith))
 
 module _ (x : Float) (h : T (fits binary64 x)) (n : T (not (isNan x))) where
   split : (toBits binary64 x % 2 ^ 63 ≡ toBits binary64 (abs x)) × (leb (2 ^ 63) (toBits binary64 x) ≡ negative x)

@@ -5,12 +5,12 @@ use Prim.Native.Nat.{ℕ, zero, suc, _+_, _-_, _*_, _%_, _^_, _≤_, _<_}
 use native.Mathlib.Nat.{le-trans, le-of-lt, lt-of-le-of-lt, mul-le-mul-right, mod-lt, zero-lt-suc, div-eq-of-lt}
 use native.Mathlib.Omega.{arith}
 use mathlib.Core.Bool.{Bool, true, false, cond, false≢true}
+use borrow.Author.Tests.{ltb-true, ltb-false, lt-ltb}
 use lib.IntN.{pos, negsuc, negℤ}
-use lib.Dec.{T, ltb, ltb→lt, lt→ltb, nltb→le, lit<, lit≤}
+use lib.Dec.{T, lit<, lit≤}
 use lib.Pow.{pow-pos}
 use lib.Ieee.{Float, nan, inf, fin, binary64, up, down, unlike, round, add, sub, mul, rem, lt, ofInt, ofBits, fits}
 use lib.Ieee.Back.{round-whole}
-use lib.Ieee.Bits.{is-true}
 use lib.Ieee.Exact.{HasValue}
 use lib.Ieee.Fits.{down-pos, round-fits}
 use lib.Ieee.Positive.{num, den}
@@ -45,7 +45,7 @@ unfolding lt abs TAU ofBits
 own-remainder nan h l = absurd (false≢true l)
 own-remainder (inf s) h l = absurd (false≢true l)
 own-remainder (fin s m e) h l =
-    sym (rem-below binary64 s m e false tauDigits (negsuc 46) h (ltb→lt (m * up e * 2 ^ 47) (tauDigits * 1 * down e) (rw l tt)))
+    sym (rem-below binary64 s m e false tauDigits (negsuc 46) h (ltb-true (m * up e * 2 ^ 47) (tauDigits * 1 * down e) l))
 
 pub remainder-below : (x : Float) → T (fits binary64 x) → isFinite x ≡ true → AtMost binary64 (rem binary64 x TAU) (negative x) turn
 unfolding isFinite negative TAU ofBits
@@ -89,7 +89,7 @@ pub size-asks : (q a : Float) (s : Bool) → a ≡ abs q → AtMost binary64 q s
 size-asks q a s e r =
     ap (λ y. lt y 2^52) e
     ∙ lt-values false false (r .units) (2 ^ 1074) (2 ^ 52) 1 (pow-pos 1074) (pow-pos 0) (abs q) 2^52 (abs-value q s (r .units) (2 ^ 1074) (r .is)) (refl, refl)
-    ∙ is-true (ltb (r .units * 1) (2 ^ 52 * 2 ^ 1074)) (lt→ltb (r .units * 1) (2 ^ 52 * 2 ^ 1074) (lt-of-le-of-lt (mul-le-mul-right 1 (r .most)) (lit< tt)))
+    ∙ lt-ltb (r .units * 1) (2 ^ 52 * 2 ^ 1074) (lt-of-le-of-lt (mul-le-mul-right 1 (r .most)) (lit< tt))
 
 -- its sign: q is negative, or its size rounds to 0, where there is none
 pub nearest-is : (q : Float) (b : Bool) → lt q (ofBits binary64 0) ≡ b → let k = roundSize (num q) (den q) in roundℤ q ≡ cond b (negℤ (pos k)) (pos k)
@@ -99,13 +99,13 @@ nearest-is (inf true) b l = ap (λ p. cond p (pos 0) (pos 0)) l
 nearest-is (inf false) b l = ap (λ p. cond p (pos 0) (pos 0)) l
 nearest-is (fin true m e) true l = refl
 nearest-is (fin true m e) false l =
-    let g : m * up e * 1 + 0 * 1 * down e ≤ 0 = nltb→le 0 (m * up e * 1 + 0 * 1 * down e) (rw l tt) in
+    let g : m * up e * 1 + 0 * 1 * down e ≤ 0 = ltb-false 0 (m * up e * 1 + 0 * 1 * down e) l in
     let z : roundSize (m * up e) (down e) ≡ 0 = no-halves (m * up e) (down e) (down-pos e) (omega arith) in
     ap (λ k. negℤ (pos k)) z ∙ ap pos (sym z)
   where
     no-halves : (n d : ℕ) → 0 < d → n ≡ 0 → roundSize n d ≡ 0
     no-halves n d D z = let l : 2 * n + d < 2 * d = omega arith in div-eq-of-lt l
-nearest-is (fin false m e) true l = let g : m * up e * 1 < 0 * 1 * down e = ltb→lt (m * up e * 1) (0 * 1 * down e) (rw l tt) in absurd (omega arith)
+nearest-is (fin false m e) true l = let g : m * up e * 1 < 0 * 1 * down e = ltb-true (m * up e * 1) (0 * 1 * down e) l in absurd (omega arith)
 nearest-is (fin false m e) false l = refl
 
 -- as a float: 0 - k for a negative one

@@ -2,7 +2,7 @@
 use mathlib.Core.Path.{sym, _∙_}
 use borrow.Author.Tests.{not-true, not-false}
 use Rattle.elementary.specs.Constants.{PI}
-use Rattle.elementary.proofs.Quarters.{zero-by-zero}
+use Rattle.elementary.proofs.SignBit.{zero-by-zero}
 use Rattle.elementary.proofs.Angles.{and-first, and-then, atan2-nan, atan2-left, atan2-right}
 use Rattle.elementary.proofs.arctangent.atan2.Statement.{statement}
 use Rattle.elementary.proofs.arctangent.atan2.Tie as tie

@@ -1,6 +1,6 @@
 -- `sqrt` meets its contract. Assumes nothing.
 use borrow.Author.Needs.{needs}
-use mathlib.Core.Path.{_≡_, sym, ap, _∙_, subst}
+use mathlib.Core.Path.{_≡_, sym, ap, _∙_}
 use Prim.Native.Nat.{_^_, _<_}
 use native.Mathlib.Omega.{arith}
 use lib.Dec.{T}
@@ -8,26 +8,27 @@ use lib.Ieee.{binary64, fits, ofBits, toBits}
 use lib.Ieee.Bits.{ofBits-toBits, toBits-lt, ofBits-fits}
 use Rattle.arithmetic.specs.Sqrt.{sqrt}
 use Rattle.arithmetic.proofs.Width.{scaled-half}
-use Rattle.elementary.proofs.RootBits.{at-nan, number, zero-by-zero, at-zero, at-minus-zero, at-top, below-zero, made-lt, made-number, made-root}
+use Rattle.elementary.proofs.SignBit.{is-nan, is-number, zero-by-zero}
+use Rattle.elementary.proofs.RootBits.{at-top, below-zero, made-lt, made-number, made-root}
 use Rattle.elementary.proofs.root.sqrt.Statement.{statement}
 use Rattle.elementary.proofs.root.sqrt.Tie as tie
 
 held : (c : tie.Start) → T (fits binary64 (c .args .x))
-held c = subst T (sym (c .good .0 .1)) tt
+held c = rw (c .good .0 .1) tt
 
 back : (c : tie.Start) → ofBits binary64 (toBits binary64 (c .args .x)) ≡ c .args .x
 back c = ofBits-toBits binary64 (c .args .x) (held c)
 
 returns : tie.Need-returns
-returns c = at-nan (c .before .args .x) (c .if1 .taken)
+unfolding sqrt
+returns c = let n = is-nan (c .before .args .x) (c .if1 .taken) in n ∙ ap sqrt (sym n)
 
 float-to-bits-b : tie.Need-float-to-bits-b
-float-to-bits-b c = number (c .before .args .x) (c .if1 .left)
+float-to-bits-b c = is-number (c .before .args .x) (c .if1 .left)
 
 returns-2 : tie.Need-returns-2
-returns-2 c =
-    let e = sym (back (c .before .before .before)) ∙ ap (ofBits binary64) (c .if3 .taken) in
-    e ∙ at-minus-zero ∙ ap sqrt (sym e)
+unfolding sqrt ofBits
+returns-2 c = let e = sym (back (c .before .before .before)) ∙ ap (ofBits binary64) (c .if3 .taken) in e ∙ ap sqrt (sym e)
 
 returns-3 : tie.Need-returns-3
 returns-3 c =
@@ -38,9 +39,8 @@ returns-3 c =
     zero-by-zero ∙ below-zero b (omega arith) l ∙ ap sqrt (back s)
 
 returns-4 : tie.Need-returns-4
-returns-4 c =
-    let e = sym (back (c .before .before .before)) ∙ ap (ofBits binary64) (c .if4 .taken) in
-    e ∙ at-zero ∙ ap sqrt (sym e)
+unfolding sqrt ofBits
+returns-4 c = let e = sym (back (c .before .before .before)) ∙ ap (ofBits binary64) (c .if4 .taken) in e ∙ ap sqrt (sym e)
 
 returns-5 : tie.Need-returns-5
 returns-5 c =

@@ -1,5 +1,5 @@
 -- `abs` meets its contract: the sign bit is cleared, and a NaN stays. Assumes nothing.
-use mathlib.Core.Path.{sym, ap, _∙_, subst}
+use mathlib.Core.Path.{sym, ap, _∙_}
 use lib.Dec.{T}
 use lib.Ieee.{binary64, fits}
 use Rattle.elementary.specs.Signs.{abs}
@@ -8,7 +8,7 @@ use Rattle.elementary.proofs.signs.abs.Statement.{statement}
 use Rattle.elementary.proofs.signs.abs.Tie as tie
 
 held : (c : tie.Start) → T (fits binary64 (c .args .x))
-held c = subst T (sym (c .good .0 .1)) tt
+held c = rw (c .good .0 .1) tt
 
 returns : tie.Need-returns
 unfolding abs

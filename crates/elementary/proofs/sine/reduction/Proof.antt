@@ -1,10 +1,10 @@
 -- `reduction` meets its contract: the remainder is below TAU, so the count of quarter turns is at most 17/4, and the nearest whole number is made from its size and a comparison with 0. Assumes nothing.
-use mathlib.Core.Path.{_≡_, sym, ap, _∙_, subst}
+use mathlib.Core.Path.{_≡_, sym, ap, _∙_}
 use Prim.Native.Nat.{_^_, _≤_}
 use native.Mathlib.Omega.{arith}
 use borrow.Author.Needs.{needs}
 use mathlib.Core.Bool.{true, false}
-use lib.Dec.{T, le→leb}
+use lib.Dec.{le→leb}
 use lib.IntN.{pos, negℤ}
 use lib.Ieee.{Float, binary64, mul, inFloat}
 use lib.Ieee.Positive.{num, den}
@@ -28,7 +28,7 @@ quarters-few : (c : tie.After-within-turn) → AtMost binary64 (quarters c) (neg
 unfolding quarters
 quarters-few c =
     let x = c .before .args .x in
-    quarters-most (c .within-turn .result) (negative x) (rw (c .within-turn .ensures) (remainder-below x (subst T (sym (c .before .good .0 .1)) tt) (c .before .pre)))
+    quarters-most (c .within-turn .result) (negative x) (rw (c .within-turn .ensures) (remainder-below x (rw (c .before .good .0 .1) tt) (c .before .pre)))
 
 nearest-size-requires : tie.Need-nearest-size-requires
 unfolding quarters FRAC-2-PI

@@ -1,7 +1,6 @@
 -- `within_turn` meets its contract: a value within a turn is its own remainder. Assumes nothing.
-use mathlib.Core.Path.{refl, sym, ap, _∙_, subst}
+use mathlib.Core.Path.{refl, sym, ap, _∙_}
 use borrow.Author.Needs.{needs}
-use lib.Dec.{T}
 use lib.Ieee.{lt}
 use Rattle.elementary.specs.Constants.{TAU}
 use Rattle.elementary.proofs.Turn.{own-remainder}
@@ -10,7 +9,7 @@ use Rattle.elementary.proofs.sine.within_turn.Tie as tie
 
 returns : tie.Need-returns
 unfolding TAU
-returns c = own-remainder (c .before .before .args .x) (subst T (sym (c .before .before .good .0 .1)) tt) (ap (λ a. lt a TAU) (sym (c .before .abs .ensures)) ∙ c .if1 .taken)
+returns c = own-remainder (c .before .before .args .x) (rw (c .before .before .good .0 .1) tt) (ap (λ a. lt a TAU) (sym (c .before .abs .ensures)) ∙ c .if1 .taken)
 
 returns-2 : tie.Need-returns-2
 unfolding TAU

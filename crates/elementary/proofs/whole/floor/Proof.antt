@@ -1,11 +1,11 @@
 -- `floor` meets its contract: a value with no fraction is its own, and any other's is made from its whole part and its sign. Assumes nothing.
-use mathlib.Core.Path.{_≡_, sym, ap, _∙_, subst}
+use mathlib.Core.Path.{_≡_, sym, ap, _∙_}
 use Prim.Native.Nat.{suc, _+_, _*_, _/_, _^_, _≤_, _<_}
 use native.Mathlib.Numerals.{add-one}
 use native.Mathlib.Omega.{arith}
 use borrow.Author.Needs.{needs}
 use mathlib.Core.Bool.{true, false}
-use lib.Dec.{T, le→leb}
+use lib.Dec.{le→leb}
 use lib.Ieee.{binary64, round, ofInt, ofBits, inFloat}
 use lib.Ieee.Positive.{num, den, den-pos}
 use Rattle.arithmetic.proofs.Rounding.{neg-round}
@@ -18,7 +18,7 @@ returns : tie.Need-returns
 unfolding ofBits
 returns c =
     let x = c .before .before .args .x in
-    floor-whole x (large-whole x (c .before .abs .result) (subst T (sym (c .before .before .good .0 .1)) tt) (c .before .abs .ensures) (c .if1 .taken))
+    floor-whole x (large-whole x (c .before .abs .result) (rw (c .before .before .good .0 .1) tt) (c .before .abs .ensures) (c .if1 .taken))
 
 small : (c : tie.Else1) → Below (c .before .before .args .x) (c .before .abs .result)
 unfolding ofBits

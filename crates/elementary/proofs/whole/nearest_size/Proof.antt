@@ -1,8 +1,7 @@
 -- `nearest_size` meets its contract: the whole part of a + a, which is exact, counts the halves of a. Assumes nothing.
-use mathlib.Core.Path.{_≡_, sym, ap, _∙_, subst}
+use mathlib.Core.Path.{_≡_, ap, _∙_}
 use Prim.Native.Nat.{_+_, _/_}
 use native.Mathlib.Omega.{arith}
-use lib.Dec.{T}
 use lib.Ieee.Positive.{num, den, den-pos}
 use Rattle.elementary.specs.Whole.{roundSize}
 use Rattle.elementary.proofs.Fraction.{Counted, counted, halves, round-size-le}
@@ -10,7 +9,7 @@ use Rattle.elementary.proofs.whole.nearest_size.Statement.{statement}
 use Rattle.elementary.proofs.whole.nearest_size.Tie as tie
 
 known : (c : tie.Start) → Counted (c .args .a)
-known c = counted (c .args .a) (subst T (sym (c .good .0 .1)) tt) (c .pre .0) (c .pre .1)
+known c = counted (c .args .a) (rw (c .good .0 .1) tt) (c .pre .0) (c .pre .1)
 
 truncating-f64-to-u64-requires : tie.Need-truncating-f64-to-u64-requires
 truncating-f64-to-u64-requires c κs = known c .cut .asks

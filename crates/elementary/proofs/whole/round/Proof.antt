@@ -1,17 +1,18 @@
 -- `round` meets its contract: a value with no fraction is its own, and any other's is made from the nearest size and its sign. Assumes nothing.
-use mathlib.Core.Path.{_≡_, sym, ap, _∙_, subst}
+use mathlib.Core.Path.{_≡_, sym, ap, _∙_}
 use Prim.Native.Nat.{_*_, _^_, _≤_}
 use native.Mathlib.Omega.{arith}
 use borrow.Author.Needs.{needs}
+use borrow.Author.Tests.{not-false}
 use mathlib.Core.Bool.{true, false}
-use lib.Dec.{T, le→leb}
+use lib.Dec.{le→leb}
 use lib.Ieee.{binary64, lt, ofInt, ofBits, inFloat}
 use lib.Ieee.{round as rounded}
 use lib.Ieee.Positive.{num, den, den-pos}
 use Rattle.arithmetic.proofs.Rounding.{neg-round}
 use Rattle.elementary.specs.Whole.{roundSize}
 use Rattle.elementary.proofs.SignBit.{abs-positive}
-use Rattle.elementary.proofs.Fraction.{2^52, Below, below, was-less, same-size, Fraction, large-whole, equal, unequal, sign-is, round-back, round-whole, round-part}
+use Rattle.elementary.proofs.Fraction.{2^52, Below, below, same-size, Fraction, large-whole, equal, unequal, sign-is, round-back, round-whole, round-part}
 use Rattle.elementary.proofs.whole.round.Statement.{statement}
 use Rattle.elementary.proofs.whole.round.Tie as tie
 
@@ -19,7 +20,7 @@ returns : tie.Need-returns
 unfolding ofBits
 returns c =
     let x = c .before .before .args .x in
-    round-whole x (large-whole x (c .before .abs .result) (subst T (sym (c .before .before .good .0 .1)) tt) (c .before .abs .ensures) (c .if1 .taken))
+    round-whole x (large-whole x (c .before .abs .result) (rw (c .before .before .good .0 .1) tt) (c .before .abs .ensures) (c .if1 .taken))
 
 small : (c : tie.Else1) → Below (c .before .before .args .x) (c .before .abs .result)
 unfolding ofBits
@@ -27,7 +28,7 @@ small c = below (c .before .before .args .x) (c .before .abs .result) (c .before
 
 nearest-size-requires : tie.Need-nearest-size-requires
 unfolding ofBits
-nearest-size-requires c κs = (abs-positive (c .before .before .args .x) (c .before .abs .result) (c .before .abs .ensures), was-less (lt (c .before .abs .result) 2^52) (c .if1 .left))
+nearest-size-requires c κs = (abs-positive (c .before .before .args .x) (c .before .abs .result) (c .before .abs .ensures), not-false (lt (c .before .abs .result) 2^52) (c .if1 .left))
 
 nearest : (c : tie.After-nearest-size) → let x = c .before .before .before .args .x in c .nearest-size .result ≡ roundSize (num x) (den x)
 nearest c = c .nearest-size .ensures .0 ∙ same-size (c .before .before .before .args .x) (c .before .before .abs .result) (c .before .before .abs .ensures)
