@@ -34,21 +34,9 @@ module _ (y t d : ℕ) (Y : y < 2 ^ 63) (K : t < 2 ^ 63) (D : d < 2 ^ 64) (e : (
   pub added-back : (s r : ℕ) → s < 2 ^ 64 → (s + d / 2 ^ 63) % 2 ^ 64 ≡ 0 → r ≡ (d + bitAnd t s) % 2 ^ 64 → r ≡ cond (leb t y) (y - t) y
   added-back s r S m h =
       by-test t y (y - t) y r
-      (λ g. h ∙ ap (λ (x : ℕ). (d + x) % 2 ^ 64) (none t s (zeros s (d / 2 ^ 63) S m (clear g .1))) ∙ omega (arith, clear g .0))
-      (λ g. h ∙ ap (λ (x : ℕ). (d + x) % 2 ^ 64) (all t s (omega arith) (ones s (d / 2 ^ 63) S m (set g))) ∙ e)
-    where
-      zeros : (s b : ℕ) → s < 2 ^ 64 → (s + b) % 2 ^ 64 ≡ 0 → b ≡ 0 → s ≡ 0
-      zeros s b l m z = omega arith
-
-      ones : (s b : ℕ) → s < 2 ^ 64 → (s + b) % 2 ^ 64 ≡ 0 → b ≡ 1 → s ≡ 2 ^ 64 - 1
-      ones s b l m z = omega arith
+      (λ g. h ∙ ap (λ (x : ℕ). (d + x) % 2 ^ 64) (none t s (omega (arith, clear g .1))) ∙ omega (arith, clear g .0))
+      (λ g. h ∙ ap (λ (x : ℕ). (d + x) % 2 ^ 64) (all t s (omega arith) (omega (arith, set g))) ∙ e)
 
   -- v is kept where t is at most y
   pub kept : (s v : ℕ) → s < 2 ^ 64 → v < 2 ^ 64 → (s + 1) % 2 ^ 64 ≡ d / 2 ^ 63 → bitAnd v s ≡ cond (leb t y) v 0
-  kept s v S l m = by-test t y v 0 (bitAnd v s) (λ g. all v s l (ones s (d / 2 ^ 63) S m (clear g .1))) (λ g. none v s (zeros s (d / 2 ^ 63) S m (set g)))
-    where
-      zeros : (s b : ℕ) → s < 2 ^ 64 → (s + 1) % 2 ^ 64 ≡ b → b ≡ 1 → s ≡ 0
-      zeros s b l m z = omega arith
-
-      ones : (s b : ℕ) → s < 2 ^ 64 → (s + 1) % 2 ^ 64 ≡ b → b ≡ 0 → s ≡ 2 ^ 64 - 1
-      ones s b l m z = omega arith
+  kept s v S l m = by-test t y v 0 (bitAnd v s) (λ g. all v s l (omega (arith, clear g .1))) (λ g. none v s (omega (arith, set g)))

@@ -59,19 +59,13 @@ floor-of : (x r : Float) (k : ℕ) → Sized x r k → Floored (negative x) (num
 floor-of x r k z h = let f = floored (negative x) x r k (z .size) h in record { like = z .like; at-most = f .0; below-next = f .1 }
 
 module _ (n d : ℕ) (D : 0 < d) where
-  split : n / d * d + n % d ≡ n
-  split = div-add-mod' n d
-
-  rest-lt : n % d < d
-  rest-lt = mod-lt n D
-
   whole-floor : (s : Bool) → n % d ≡ 0 → Floored s n d (n / d)
-  whole-floor false z = (omega (arith, split), omega (arith, split))
-  whole-floor true z = (omega (arith, split), omega (arith, split))
+  whole-floor false z = let b = div-add-mod' n d in (omega arith, omega arith)
+  whole-floor true z = let b = div-add-mod' n d in (omega arith, omega arith)
 
   part-floor : (s : Bool) → 0 < n % d → Floored s n d (floorSize s n d)
-  part-floor false z = (omega (arith, split), omega (arith, split, rest-lt))
-  part-floor true z = (omega (arith, split, rest-lt), omega (arith, split))
+  part-floor false z = let b = div-add-mod' n d in let l = mod-lt n D in (omega arith, omega arith)
+  part-floor true z = let b = div-add-mod' n d in let l = mod-lt n D in (omega arith, omega arith)
 
 size-le : (s : Bool) (n d : ℕ) → n / d < 2 ^ 52 → floorSize s n d ≤ 2 ^ 53
 size-le false n d h = omega arith

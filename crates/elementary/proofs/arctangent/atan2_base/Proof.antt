@@ -1,8 +1,9 @@
 -- `atan2_base` meets its contract. Assumes nothing.
-use mathlib.Core.Path.{sym, ap, _∙_}
+use mathlib.Core.Path.{_≡_, sym, ap, _∙_}
+use mathlib.Core.Bool.{false, _&&_}
 use mathlib.Core.Logic.{⊎-elim}
-use lib.Ieee.{binary64, sub, ofBits}
-use Rattle.elementary.specs.Constants.{FRAC-PI-2}
+use lib.Ieee.{binary64, sub, eq, ofBits}
+use Rattle.elementary.specs.Constants.{0·0, FRAC-PI-2}
 use Rattle.elementary.proofs.Angles.{and-first, and-then, base-zero, base-low, base-high}
 use Rattle.elementary.proofs.arctangent.atan2_base.Statement.{statement}
 use Rattle.elementary.proofs.arctangent.atan2_base.Tie as tie
@@ -11,17 +12,21 @@ returns : tie.Need-returns
 unfolding ofBits
 returns c = sym (base-zero _ _ (c .before .if1 .taken) (c .if2 .taken))
 
+not-both : (c : tie.Joined1) → let a = c .before .args in (eq (a .a) 0·0 && eq (a .b) 0·0) ≡ false
+unfolding ofBits
+not-both c = ⊎-elim (λ w. and-then _ _ _ (w .0 .taken) (w .1 .left)) (λ w. and-first _ _ (w .left)) (c .if1 .came)
+
 returns-2 : tie.Need-returns-2
 unfolding ofBits
 returns-2 c =
     c .core .ensures
-    ∙ sym (base-low _ _ (⊎-elim (λ w. and-then _ _ _ (w .0 .taken) (w .1 .left)) (λ w. and-first _ _ (w .left)) (c .before .before .if1 .came)) (c .before .if3 .taken))
+    ∙ sym (base-low _ _ (not-both (c .before .before)) (c .before .if3 .taken))
 
 returns-3 : tie.Need-returns-3
 unfolding ofBits FRAC-PI-2
 returns-3 c =
     ap (sub binary64 FRAC-PI-2) (c .core2 .ensures)
-    ∙ sym (base-high _ _ (⊎-elim (λ w. and-then _ _ _ (w .0 .taken) (w .1 .left)) (λ w. and-first _ _ (w .left)) (c .before .before .if1 .came)) (c .before .if3 .left))
+    ∙ sym (base-high _ _ (not-both (c .before .before)) (c .before .if3 .left))
 
 pub atan2-base-spec : {M : Type 1} → statement M
 atan2-base-spec = tie.close (tie.spec returns (λ c κs. tt) (λ c κs. tt) returns-2 returns-3)
