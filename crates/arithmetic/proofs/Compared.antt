@@ -3,13 +3,14 @@ use mathlib.Core.Path.{_≡_, refl, sym, ap, _∙_}
 use Prim.Native.Nat.{ℕ, _+_, _-_, _*_, _/_, _^_, _<_, min}
 use native.Mathlib.Nat.{zero-mul, mul-pos, mul-comm, mul-assoc, mul-left-comm, mul-lt-mul-of-pos-right, lt-of-mul-lt-mul-right, eq-of-mul-eq-mul-right}
 use native.Mathlib.Omega.{arith}
-use mathlib.Core.Bool.{Bool, true, false, _&&_, _||_, Bool·beq, true≢false}
+use mathlib.Core.Bool.{Bool, true, false, _&&_, _||_, Bool·beq}
 use lib.IntN.{pos}
 use lib.Dec.{T, ltb, eqb, ltb→lt, lt→ltb, eqb→eq, lit<}
-use lib.Ieee.{Float, nan, inf, fin, up, down, below, level, lt, eq, toUnsigned}
+use lib.Ieee.{Float, fin, up, down, below, level, lt, eq, toUnsigned}
 use lib.Ieee.Exact.{HasValue}
 use lib.Ieee.Fits.{down-pos, eq→eqb}
 use lib.Ieee.Nearest.{div-same}
+use Rattle.arithmetic.proofs.Units.{of-value, of-values}
 
 -- ---- tests on two numbers and on the same multiples of them
 
@@ -56,27 +57,17 @@ cross' y q b d p c e = simp (mul-assoc, mul-comm, mul-left-comm) (simp (mul-asso
 module _ (s t : Bool) (a c b d : ℕ) (C : 0 < c) (D : 0 < d) where
   pub lt-values : (x y : Float) → HasValue x s a c → HasValue y t b d → lt x y ≡ below s (a * d) t (b * c)
   unfolding lt
-  lt-values nan y v w = absurd v
-  lt-values (inf p) y v w = absurd v
-  lt-values (fin p m e) nan v w = absurd w
-  lt-values (fin p m e) (inf q) v w = absurd w
-  lt-values (fin p m e) (fin q n g) v w =
-      ap (λ r. below r (m * up e * down g) q (n * up g * down e)) (v .0)
-      ∙ ap (λ r. below s (m * up e * down g) r (n * up g * down e)) (w .0)
-      ∙ below-same (m * up e * down g) (n * up g * down e) (a * d) (b * c) (c * d) (down e * down g) (mul-pos C D) (mul-pos (down-pos e) (down-pos g))
-      (cross (m * up e) (down e) a c (down g) d (v .1)) (cross' (n * up g) (down g) b d (down e) c (w .1)) s t
+  lt-values =
+      of-values (λ x y. lt x y ≡ below s (a * d) t (b * c)) s a c t b d λ m e n g h k.
+      below-same (m * up e * down g) (n * up g * down e) (a * d) (b * c) (c * d) (down e * down g) (mul-pos C D) (mul-pos (down-pos e) (down-pos g))
+      (cross (m * up e) (down e) a c (down g) d h) (cross' (n * up g) (down g) b d (down e) c k) s t
 
   pub eq-values : (x y : Float) → HasValue x s a c → HasValue y t b d → eq x y ≡ level s (a * d) t (b * c)
   unfolding eq
-  eq-values nan y v w = absurd v
-  eq-values (inf p) y v w = absurd v
-  eq-values (fin p m e) nan v w = absurd w
-  eq-values (fin p m e) (inf q) v w = absurd w
-  eq-values (fin p m e) (fin q n g) v w =
-      ap (λ r. level r (m * up e * down g) q (n * up g * down e)) (v .0)
-      ∙ ap (λ r. level s (m * up e * down g) r (n * up g * down e)) (w .0)
-      ∙ level-same (m * up e * down g) (n * up g * down e) (a * d) (b * c) (c * d) (down e * down g) (mul-pos C D) (mul-pos (down-pos e) (down-pos g))
-      (cross (m * up e) (down e) a c (down g) d (v .1)) (cross' (n * up g) (down g) b d (down e) c (w .1)) s t
+  eq-values =
+      of-values (λ x y. eq x y ≡ level s (a * d) t (b * c)) s a c t b d λ m e n g h k.
+      level-same (m * up e * down g) (n * up g * down e) (a * d) (b * c) (c * d) (down e * down g) (mul-pos C D) (mul-pos (down-pos e) (down-pos g))
+      (cross (m * up e) (down e) a c (down g) d h) (cross' (n * up g) (down g) b d (down e) c k) s t
 
 -- ---- the cut to a whole number
 
@@ -89,10 +80,7 @@ cut-asks x a c C v h = (
 
 pub cut-value : (w : ℕ) (x : Float) (a c : ℕ) → 0 < c → HasValue x false a c → a / c < 2 ^ w → toUnsigned w x ≡ a / c
 unfolding toUnsigned
-cut-value w nan a c C v h = absurd v
-cut-value w (inf s) a c C v h = absurd v
-cut-value w (fin true m e) a c C v h = absurd (true≢false (v .0))
-cut-value w (fin false m e) a c C v h = ap (λ n. min n (2 ^ w - 1)) (div-same (m * up e) (down e) a c (down-pos e) C (v .1)) ∙ within (a / c) (2 ^ w) h
+cut-value w x a c C v h = of-value (λ y. toUnsigned w y ≡ a / c) false a c (λ m e k. ap (λ n. min n (2 ^ w - 1)) (div-same (m * up e) (down e) a c (down-pos e) C k) ∙ within (a / c) (2 ^ w) h) x v
   where
     within : (n p : ℕ) → n < p → min n (p - 1) ≡ n
     within n p h = omega arith

@@ -12,14 +12,14 @@ use lib.IntN.{ℤ, pos, negsuc}
 use lib.Dec.{T, leb, leb→le, le→leb}
 use lib.Pow.{pow-add, pow-mono, shl-lt}
 use lib.Count.{trailingZeros}
-use lib.Ieee.{Float, nan, inf, fin, binary64, up, down, minus, odd, ofFields, ofBits, fits}
+use lib.Ieee.{Float, fin, binary64, up, down, minus, odd, ofFields, ofBits, fits}
 use lib.Ieee.Exact.{HasValue, odd-sign}
 use lib.Ieee.Fits.{down-pos}
 use lib.Ieee.Positive.{first-pos}
 use Rattle.arithmetic.specs.Sqrt.{height}
 use Rattle.arithmetic.proofs.Compared.{test-same}
 use Rattle.arithmetic.proofs.Powers.{apart}
-use Rattle.arithmetic.proofs.Units.{rise, fitting, count}
+use Rattle.arithmetic.proofs.Units.{of-value, rise, fitting, count}
 
 -- ---- counts
 
@@ -28,9 +28,8 @@ height-is (pos k) = refl
 height-is (negsuc k) = omega arith
 
 pub scale : (x : Float) (s : Bool) (a c t : ℕ) → HasValue x s a c → HasValue x s (a * t) (c * t)
-scale nan s a c t h = h
-scale (inf u) s a c t h = h
-scale (fin u m e) s a c t h = (h .0, sym (mul-assoc (m * up e) c t) ∙ ap (λ (x : ℕ). x * t) (h .1) ∙ mul-right-comm a (down e) t)
+scale x s a c t =
+    of-value (λ y. HasValue y s (a * t) (c * t)) s a c (λ m e h. (refl, sym (mul-assoc (m * up e) c t) ∙ ap (λ (n : ℕ). n * t) h ∙ mul-right-comm a (down e) t)) x
 
 -- of a count above 0 no zero
 pub not-zero : (s : Bool) (e : ℤ) (t : Bool) (a c : ℕ) → 0 < a → HasValue (fin s 0 e) t a c → ⊥

@@ -1,4 +1,4 @@
--- Laws about the values of a format, the operations on them and the definitions of `specs/`, for every crate to cite.
+-- Laws about powers of two, the values of a format, the operations on them and the definitions of `specs/`, for every crate to cite.
 pub mod Powers
 pub mod Units
 pub mod Compared

@@ -3,30 +3,25 @@ use mathlib.Core.Path.{_≡_, refl, ap, _∙_}
 use Prim.Native.Nat.{ℕ, _-_, _*_, _^_, _≤_, _<_}
 use native.Mathlib.Nat.{mul-pos, one-mul, mul-mul-mul-comm}
 use native.Mathlib.Omega.{arith}
-use mathlib.Core.Bool.{Bool, true, false, _&&_, cond, false≢true}
+use mathlib.Core.Bool.{Bool, true, false, _&&_, cond}
 use borrow.Author.Tests.{lt-ltb}
 use lib.IntN.{ℤ, pos}
 use lib.Dec.{T, ltb, lit<}
-use lib.Ieee.{Float, nan, inf, fin, Format, prec, low, unlike, up, down, round, sum, add, mul, fits}
+use lib.Ieee.{Float, fin, Format, prec, low, unlike, up, down, round, sum, add, mul, fits}
 use lib.Ieee.Exact.{HasValue}
 use lib.Ieee.Fits.{down-pos}
 use lib.Ieee.Positive.{first-pos}
 use lib.Ieee.Scale.{round-same, overflow}
 use Rattle.arithmetic.proofs.Rounding.{AtMost, round-most}
-use Rattle.arithmetic.proofs.Units.{round-back}
+use Rattle.arithmetic.proofs.Units.{of-value, of-values, round-back}
 
 module _ (f : Format) (s t : Bool) (a c b d : ℕ) (C : 0 < c) (D : 0 < d) where
   pub mul-values : (x y : Float) → HasValue x s a c → HasValue y t b d → mul f x y ≡ round f (unlike s t) (a * b) (c * d)
   unfolding mul
-  mul-values nan y v w = absurd v
-  mul-values (inf p) y v w = absurd v
-  mul-values (fin p m e) nan v w = absurd w
-  mul-values (fin p m e) (inf q) v w = absurd w
-  mul-values (fin p m e) (fin q n g) v w =
-      ap (λ r. round f (unlike r q) (m * up e * (n * up g)) (down e * down g)) (v .0)
-      ∙ ap (λ r. round f (unlike s r) (m * up e * (n * up g)) (down e * down g)) (w .0)
-      ∙ round-same f (unlike s t) (m * up e * (n * up g)) (down e * down g) (a * b) (c * d) (mul-pos (down-pos e) (down-pos g)) (mul-pos C D)
-      (mul-mul-mul-comm (m * up e) (n * up g) c d ∙ ap (λ r. r * (n * up g * d)) (v .1) ∙ ap (λ r. a * down e * r) (w .1) ∙ mul-mul-mul-comm a (down e) b (down g))
+  mul-values =
+      of-values (λ x y. mul f x y ≡ round f (unlike s t) (a * b) (c * d)) s a c t b d λ m e n g h k.
+      round-same f (unlike s t) (m * up e * (n * up g)) (down e * down g) (a * b) (c * d) (mul-pos (down-pos e) (down-pos g)) (mul-pos C D)
+      (mul-mul-mul-comm (m * up e) (n * up g) c d ∙ ap (λ r. r * (n * up g * d)) h ∙ ap (λ r. a * down e * r) k ∙ mul-mul-mul-comm a (down e) b (down g))
 
   -- q * 2 ^ j units, for a q that has no more digits than the format keeps
   pub mul-most : (x y : Float) (q j : ℕ) → HasValue x s a c → HasValue y t b d → q < 2 ^ prec f → q * 2 ^ j < overflow f → a * b * 2 ^ low f ≤ q * 2 ^ j * (c * d)
@@ -46,7 +41,5 @@ zero-plus-at f m e h l =
     ∙ round-back f (fin true m e) true (b - a) (1 * down e) (mul-pos (lit< tt) (down-pos e)) h (refl, ap (λ d. m * up e * d) (one-mul (down e)) ∙ ap (λ n. n * down e) g)
 
 pub zero-plus : (f : Format) (x : Float) (a c : ℕ) → T (fits f x) → HasValue x true a c → 0 < a → add f (fin false 0 (pos 0)) x ≡ x
-zero-plus f nan a c h v A = absurd v
-zero-plus f (inf s) a c h v A = absurd v
-zero-plus f (fin false m e) a c h v A = absurd (false≢true (v .0))
-zero-plus f (fin true m e) a c h v A = zero-plus-at f m e h (first-pos (m * up e) c (rw (v .1) (mul-pos A (down-pos e))))
+zero-plus f x a c h v A =
+    of-value (λ y. T (fits f y) → add f (fin false 0 (pos 0)) y ≡ y) true a c (λ m e k g. zero-plus-at f m e g (first-pos (m * up e) c (rw k (mul-pos A (down-pos e))))) x v h

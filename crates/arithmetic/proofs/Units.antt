@@ -16,6 +16,17 @@ use lib.Ieee.Fits.{up-pos, down-pos, and-l, and-r, round-fits}
 use lib.Ieee.Nearest.{div-same}
 use lib.Ieee.Scale.{round-same, overflow}
 
+-- ---- what holds of every finite value of a sign and a size holds of every x that has them
+
+pub of-value : (P : Float → Type 0) (s : Bool) (a c : ℕ) → ((m : ℕ) (e : ℤ) → m * up e * c ≡ a * down e → P (fin s m e)) → (x : Float) → HasValue x s a c → P x
+of-value P s a c f nan v = absurd v
+of-value P s a c f (inf t) v = absurd v
+of-value P s a c f (fin t m e) v = subst (λ b. P (fin b m e)) (sym (v .0)) (f m e (v .1))
+
+pub of-values : (P : Float → Float → Type 0) (s : Bool) (a c : ℕ) (t : Bool) (b d : ℕ) → ((m : ℕ) (e : ℤ) (n : ℕ) (g : ℤ) → m * up e * c ≡ a * down e → n * up g * d ≡ b * down g → P (fin s m e) (fin t n g))
+    → (x y : Float) → HasValue x s a c → HasValue y t b d → P x y
+of-values P s a c t b d f x y v w = of-value (λ z. P z y) s a c (λ m e h. of-value (P (fin s m e)) t b d (λ n g k. f m e n g h k) y w) x v
+
 -- ---- what fits, and its count of units
 
 -- 2 ^ e is 2 ^ rise units
@@ -83,11 +94,9 @@ pattern f s n = let k = size n - prec f in cond s (top f) 0 + k * hid f + n / 2 
 
 pattern-of : (f : Format) (x : Float) (s : Bool) (a c : ℕ) → 0 < c → HasValue x s a c → toBits f x ≡ pattern f s (a * 2 ^ low f / c)
 unfolding toBits
-pattern-of f nan s a c C v = absurd v
-pattern-of f (inf t) s a c C v = absurd v
-pattern-of f (fin t m e) s a c C v =
-    ap (λ b. pattern f b (m * up e * 2 ^ low f / down e)) (v .0)
-    ∙ ap (pattern f s) (div-same (m * up e * 2 ^ low f) (down e) (a * 2 ^ low f) c (down-pos e) C (mul-right-comm (m * up e) (2 ^ low f) c ∙ ap (λ n. n * 2 ^ low f) (v .1) ∙ mul-right-comm a (down e) (2 ^ low f)))
+pattern-of f x s a c C v =
+    of-value (λ y. toBits f y ≡ pattern f s (a * 2 ^ low f / c)) s a c
+    (λ m e h. ap (pattern f s) (div-same (m * up e * 2 ^ low f) (down e) (a * 2 ^ low f) c (down-pos e) C (mul-right-comm (m * up e) (2 ^ low f) c ∙ ap (λ n. n * 2 ^ low f) h ∙ mul-right-comm a (down e) (2 ^ low f)))) x v
 
 pub unique : (f : Format) (x y : Float) (s : Bool) (a c : ℕ) → 0 < c → T (fits f x) → T (fits f y) → HasValue x s a c → HasValue y s a c → x ≡ y
 unique f x y s a c C h k v w =

@@ -33,11 +33,11 @@ floor-whole nan z = refl
 floor-whole (inf s) z = refl
 floor-whole (fin s m e) z = rw (eq-eqb (m * up e % down e) 0 z, floor)
 
-pub floor-part : (x : Float) → Fraction x → round binary64 (negative x) (floorSize (negative x) (num x) (den x)) 1 ≡ floor ieee x
+pub floor-part : (x : Float) (s : Bool) (k : ℕ) → Fraction x → negative x ≡ s → k ≡ floorSize s (num x) (den x) → round binary64 s k 1 ≡ floor ieee x
 unfolding floor negative
-floor-part nan z = absurd (z refl)
-floor-part (inf s) z = absurd (z refl)
-floor-part (fin s m e) z = rw (ne-eqb (m * up e % down e) 0 z, floor)
+floor-part nan s k z n q = absurd (z refl)
+floor-part (inf t) s k z n q = absurd (z refl)
+floor-part (fin t m e) s k z n q = rw (ne-eqb (m * up e % down e) 0 z, floor, q, n)
 
 pub round-whole : (x : Float) → num x % den x ≡ 0 → x ≡ roundAway ieee x
 unfolding roundAway
@@ -45,11 +45,11 @@ round-whole nan z = refl
 round-whole (inf s) z = refl
 round-whole (fin s m e) z = rw (eq-eqb (m * up e % down e) 0 z, roundAway)
 
-pub round-part : (x : Float) → Fraction x → round binary64 (negative x) (roundSize (num x) (den x)) 1 ≡ roundAway ieee x
+pub round-part : (x : Float) (s : Bool) (k : ℕ) → Fraction x → negative x ≡ s → k ≡ roundSize (num x) (den x) → round binary64 s k 1 ≡ roundAway ieee x
 unfolding roundAway negative
-round-part nan z = absurd (z refl)
-round-part (inf s) z = absurd (z refl)
-round-part (fin s m e) z = rw (ne-eqb (m * up e % down e) 0 z, roundAway)
+round-part nan s k z n q = absurd (z refl)
+round-part (inf t) s k z n q = absurd (z refl)
+round-part (fin t m e) s k z n q = rw (ne-eqb (m * up e % down e) 0 z, roundAway, q, n)
 
 -- ---- the tests
 

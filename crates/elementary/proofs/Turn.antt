@@ -20,7 +20,7 @@ use Rattle.arithmetic.proofs.Compared.{lt-values}
 use Rattle.arithmetic.proofs.Product.{mul-most, zero-plus}
 use Rattle.arithmetic.proofs.Remainder.{rem-below, rem-exact}
 use Rattle.arithmetic.proofs.Rounding.{AtMost, neg-round}
-use Rattle.arithmetic.proofs.Units.{rise}
+use Rattle.arithmetic.proofs.Units.{of-value, rise}
 use Rattle.elementary.specs.Constants.{TAU, FRAC-2-PI}
 use Rattle.elementary.specs.Signs.{abs, negative}
 use Rattle.elementary.specs.Sine.{modulo4, wholeFloat}
@@ -80,9 +80,7 @@ quarters-most y false r = product y false r
 
 abs-value : (x : Float) (s : Bool) (a c : ℕ) → HasValue x s a c → HasValue (abs x) false a c
 unfolding abs
-abs-value nan s a c v = v
-abs-value (inf t) s a c v = v
-abs-value (fin t m e) s a c v = (refl, v .1)
+abs-value x s a c = of-value (λ y. HasValue (abs y) false a c) s a c (λ m e h. (refl, h)) x
 
 -- what `nearest_size` asks
 pub size-asks : (q a : Float) (s : Bool) → a ≡ abs q → AtMost binary64 q s quartersMost → lt a 2^52 ≡ true

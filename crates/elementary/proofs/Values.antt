@@ -82,7 +82,7 @@ floor-value x h f = go (eq-zero-or-pos (num x % den x))
     go (inr p) =
         let k = floorSize (negative x) (num x) (den x) in
         let l = size-le (negative x) (num x) (den x) (cut-lt (num x) (den x) (den-pos x) (fraction-small x h (not-zero p))) in
-        subst (FloorOf x) (floor-part x (not-zero p)) (floor-of x (rounded binary64 (negative x) k 1) k (made x k l) (part-floor (num x) (den x) (den-pos x) (negative x) p))
+        subst (FloorOf x) (floor-part x (negative x) k (not-zero p) refl refl) (floor-of x (rounded binary64 (negative x) k 1) k (made x k l) (part-floor (num x) (den x) (den-pos x) (negative x) p))
 
 -- ---- round
 
@@ -104,4 +104,4 @@ round-value x h f = go (eq-zero-or-pos (num x % den x))
     go (inr p) =
         let k = roundSize (num x) (den x) in
         let l : k ≤ 2 ^ 53 = le-trans (round-size-le (num x) (den x) (den-pos x) (fraction-small x h (not-zero p))) (lit≤ tt) in
-        subst (RoundOf x) (round-part x (not-zero p)) (round-of x (rounded binary64 (negative x) k 1) (made x k l))
+        subst (RoundOf x) (round-part x (negative x) k (not-zero p) refl refl) (round-of x (rounded binary64 (negative x) k 1) (made x k l))

@@ -1,15 +1,14 @@
 -- `floor` meets its contract: a value with no fraction is its own, and any other's is made from its whole part and its sign. Assumes nothing.
-use mathlib.Core.Path.{_≡_, sym, ap, _∙_}
+use mathlib.Core.Path.{_≡_, ap, _∙_}
 use Prim.Native.Nat.{suc, _+_, _*_, _/_, _^_, _≤_, _<_}
 use native.Mathlib.Numerals.{add-one}
 use native.Mathlib.Omega.{arith}
 use borrow.Author.Needs.{needs}
 use mathlib.Core.Bool.{true, false}
 use lib.Dec.{le→leb}
-use lib.Ieee.{binary64, round, ofInt, ofBits, inFloat}
+use lib.Ieee.{binary64, ofInt, ofBits, inFloat}
 use lib.Ieee.Positive.{num, den, den-pos}
 use Rattle.arithmetic.proofs.Rounding.{neg-round}
-use Rattle.elementary.specs.Whole.{floorSize}
 use Rattle.elementary.proofs.Fraction.{Below, below, Fraction, cut-below, cut-lt, cut-back, large-whole, equal, unequal, sign-is, floor-whole, floor-part}
 use Rattle.elementary.proofs.whole.floor.Statement.{statement}
 use Rattle.elementary.proofs.whole.floor.Tie as tie
@@ -63,10 +62,8 @@ returns-3 c =
     let e = c .before .before in
     let b = e .before .before in
     let x = b .before .before .before .args .x in
-    neg-round binary64 false (b .truncating-f64-to-u64 .result + 1) 1
-    ∙ ap (λ n. round binary64 true n 1) (add-one (b .truncating-f64-to-u64 .result) ∙ ap suc (part b))
-    ∙ ap (λ s. round binary64 s (floorSize s (num x) (den x)) 1) (sym (sign-is x true (fraction e) (c .before .if3 .taken)))
-    ∙ floor-part x (fraction e)
+    let k = b .truncating-f64-to-u64 .result + 1 in
+    neg-round binary64 false k 1 ∙ floor-part x true k (fraction e) (sign-is x true (fraction e) (c .before .if3 .taken)) (add-one (b .truncating-f64-to-u64 .result) ∙ ap suc (part b))
 
 returns-4 : tie.Need-returns-4
 unfolding ofInt
@@ -74,9 +71,7 @@ returns-4 c =
     let e = c .before in
     let b = e .before .before in
     let x = b .before .before .before .args .x in
-    ap (λ n. round binary64 false n 1) (part b)
-    ∙ ap (λ s. round binary64 s (floorSize s (num x) (den x)) 1) (sym (sign-is x false (fraction e) (c .if3 .left)))
-    ∙ floor-part x (fraction e)
+    floor-part x false (b .truncating-f64-to-u64 .result) (fraction e) (sign-is x false (fraction e) (c .if3 .left)) (part b)
 
 int-to-float-result : tie.Need-int-to-float-result
 unfolding inFloat

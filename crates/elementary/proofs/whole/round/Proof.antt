@@ -1,5 +1,5 @@
 -- `round` meets its contract: a value with no fraction is its own, and any other's is made from the nearest size and its sign. Assumes nothing.
-use mathlib.Core.Path.{_≡_, sym, ap, _∙_}
+use mathlib.Core.Path.{_≡_, ap, _∙_}
 use Prim.Native.Nat.{_*_, _^_, _≤_}
 use native.Mathlib.Omega.{arith}
 use borrow.Author.Needs.{needs}
@@ -7,7 +7,6 @@ use borrow.Author.Tests.{not-false}
 use mathlib.Core.Bool.{true, false}
 use lib.Dec.{le→leb}
 use lib.Ieee.{binary64, lt, ofInt, ofBits, inFloat}
-use lib.Ieee.{round as rounded}
 use lib.Ieee.Positive.{num, den, den-pos}
 use Rattle.arithmetic.proofs.Rounding.{neg-round}
 use Rattle.elementary.specs.Whole.{roundSize}
@@ -59,10 +58,8 @@ returns-3 c =
     let e = c .before in
     let b = e .before .before in
     let x = b .before .before .before .args .x in
-    neg-round binary64 false (b .nearest-size .result) 1
-    ∙ ap (λ n. rounded binary64 true n 1) (nearest b)
-    ∙ ap (λ s. rounded binary64 s (roundSize (num x) (den x)) 1) (sym (sign-is x true (fraction e) (c .if3 .taken)))
-    ∙ round-part x (fraction e)
+    let k = b .nearest-size .result in
+    neg-round binary64 false k 1 ∙ round-part x true k (fraction e) (sign-is x true (fraction e) (c .if3 .taken)) (nearest b)
 
 returns-4 : tie.Need-returns-4
 unfolding ofInt
@@ -70,9 +67,7 @@ returns-4 c =
     let e = c .before in
     let b = e .before .before in
     let x = b .before .before .before .args .x in
-    ap (λ n. rounded binary64 false n 1) (nearest b)
-    ∙ ap (λ s. rounded binary64 s (roundSize (num x) (den x)) 1) (sym (sign-is x false (fraction e) (c .if3 .left)))
-    ∙ round-part x (fraction e)
+    round-part x false (b .nearest-size .result) (fraction e) (sign-is x false (fraction e) (c .if3 .left)) (nearest b)
 
 pub round-spec : {M : Type 1} → statement M
 round-spec =
