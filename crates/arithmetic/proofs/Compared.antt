@@ -52,7 +52,7 @@ cross : (x p a c q d : ℕ) → x * c ≡ a * p → x * q * (c * d) ≡ a * d * 
 cross x p a c q d e = simp (mul-assoc, mul-comm, mul-left-comm) (simp (mul-assoc, mul-comm) at (ap (λ n. n * (q * d)) e))
 
 cross' : (y q b d p c : ℕ) → y * d ≡ b * q → y * p * (c * d) ≡ b * c * (p * q)
-cross' y q b d p c e = simp (mul-assoc, mul-comm, mul-left-comm) (simp (mul-assoc, mul-comm) at (ap (λ n. n * (p * c)) e))
+cross' y q b d p c e = rw (mul-comm c d, mul-comm p q) (cross y q b d p c e)
 
 module _ (s t : Bool) (a c b d : ℕ) (C : 0 < c) (D : 0 < d) where
   pub lt-values : (x y : Float) → HasValue x s a c → HasValue y t b d → lt x y ≡ below s (a * d) t (b * c)

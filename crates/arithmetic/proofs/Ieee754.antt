@@ -5,7 +5,7 @@ use mathlib.Core.Logic.{_⊎_, inl, inr}
 use Prim.Native.Nat.{ℕ, zero, suc, _+_, _-_, _*_, _/_, _%_, _^_, _≤_, _<_, zero-le}
 use native.Mathlib.Nat.{add-mul, le-trans, le-of-eq, le-antisymm, le-of-lt, lt-of-lt-of-le, lt-of-le-of-lt, lt-irrefl, lt-of-not-le, not-le-of-lt, eq-or-lt-of-le, mul-comm, mul-assoc, mul-right-comm, mul-le-mul, mul-le-mul-left, mul-le-mul-right, mul-lt-mul-of-pos-right, lt-of-mul-lt-mul-right, le-of-mul-le-mul-right, mul-pos, zero-lt-suc}
 use native.Mathlib.Omega.{arith}
-use mathlib.Core.Bool.{Bool, true, false, true≢false}
+use mathlib.Core.Bool.{Bool, true, false}
 use lib.IntN.{ℤ}
 use lib.Dec.{T, ltb→lt, lt→ltb}
 use lib.Pow.{pow-add, pow-pos, pow-mono}
@@ -13,11 +13,12 @@ use lib.Ieee.{Float, nan, inf, fin, binary64, up, down, fits, lt}
 use lib.Ieee.Exact.{HasValue, odd-sign}
 use lib.Ieee.Order.{transfer}
 use lib.Ieee.Fits.{down-pos, nan-fits, inf-fits}
-use lib.Ieee.Positive.{num, den, den-pos, positive, positive-of-value, value→cross, first-pos}
+use lib.Ieee.Positive.{num, den, den-pos, positive, positive-of-value, own-value, value→cross, first-pos}
 use lib.Ieee.Scale.{finite}
 use Rattle.arithmetic.specs.Nearest.{midpoint, rootTwice, IsRoot}
 use Rattle.arithmetic.specs.Sqrt.{nearestRoot, sqrt}
 use Rattle.arithmetic.proofs.Powers.{apart}
+use Rattle.arithmetic.proofs.Compared.{lt-values}
 use Rattle.arithmetic.proofs.Units.{unique}
 use Rattle.arithmetic.proofs.Count.{Beside, Counted, counted-zero, counted}
 use Rattle.arithmetic.proofs.Root.{Near}
@@ -101,23 +102,6 @@ sums ny dy nr dr a b d ey er =
 cross-lt : (ny dy nr dr a b d : ℕ) → ny * d ≡ a * dy → nr * d ≡ b * dr → 0 < d → ny * dr < nr * dy → a < b
 cross-lt ny dy nr dr a b d ey er D h = lt-of-not-le (λ g. not-le-of-lt h (transfer nr ny dr dy b a d d D D er ey (mul-le-mul-right d g)))
 
--- ---- the order against a value above zero
-
-less : (r : Float) (m : ℕ) (e : ℤ) → T (positive r) → T (lt (fin false m e) r) → m * up e * den r < num r * down e
-unfolding lt
-less nan m e p l = absurd p
-less (inf s) m e p l = absurd p
-less (fin true n d) m e p l = absurd p
-less (fin false n d) m e p l = ltb→lt (m * up e * down d) (n * up d * down e) l
-
-more : (r : Float) (s : Bool) (m : ℕ) (e : ℤ) → T (positive r) → T (lt r (fin s m e)) → (s ≡ false) × (num r * down e < m * up e * den r)
-unfolding lt
-more nan s m e p l = absurd p
-more (inf t) s m e p l = absurd p
-more (fin true n d) s m e p l = absurd p
-more (fin false n d) true m e p l = absurd l
-more (fin false n d) false m e p l = (refl, ltb→lt (n * up d * down e) (m * up e * down d) l)
-
 -- ---- the root
 
 module _ (x : Float) (a g : ℕ) (w : Wide x a g) (most : g ≤ 2097) where
@@ -166,6 +150,9 @@ module _ (x : Float) (a g : ℕ) (w : Wide x a g) (most : g ≤ 2097) where
       (le-trans (le-of-eq (mul-comm (den r) (2 ^ 537))) (le-trans (mul-le-mul-right (den r) large) (le-of-eq (sym cross-r ∙ sym (mul-assoc (num r) (2 ^ 537) (2 ^ 537))))))
       (pow-pos 537)
 
+  own : HasValue r false (num r) (den r)
+  own = own-value r above-zero
+
   -- a value of size m * 2 ^ e, and its sum with r
   module _ (m : ℕ) (e : ℤ) (c : Counted m e) where
     abbrev sum : ℕ
@@ -196,7 +183,9 @@ module _ (x : Float) (a g : ℕ) (w : Wide x a g) (most : g ≤ 2097) where
   from-below : (y : Float) → T (fits binary64 y) → T (finite y) → T (lt y r) → midpoint x y r < rootTwice x y r
   from-below nan f h l = absurd h
   from-below (inf s) f h l = absurd h
-  from-below (fin false m e) f h l = sum-below m e (counted false m e f) (less r m e above-zero l)
+  from-below (fin false m e) f h l =
+      sum-below m e (counted false m e f)
+      (ltb→lt (m * up e * den r) (num r * down e) (rw (lt-values false false (m * up e) (down e) (num r) (den r) (down-pos e) (den-pos r) (fin false m e) r (refl, refl) own) at l))
   from-below (fin true m e) f h l = lt-of-le-of-lt (mul-le-mul-right (den x) (mul-le-mul le le)) (sum-below 0 e (counted-zero e) some)
     where
       at-most : (u v t s : ℕ) → v - u ≤ 0 * t * s + v
@@ -214,8 +203,10 @@ module _ (x : Float) (a g : ℕ) (w : Wide x a g) (most : g ≤ 2097) where
   from-above : (y : Float) → T (fits binary64 y) → T (finite y) → T (lt r y) → rootTwice x y r < midpoint x y r
   from-above nan f h l = absurd h
   from-above (inf s) f h l = absurd h
-  from-above (fin true m e) f h l = absurd (true≢false (more r true m e above-zero l .0))
-  from-above (fin false m e) f h l = sum-above m e (counted false m e f) (more r false m e above-zero l .1)
+  from-above (fin true m e) f h l = absurd (rw (lt-values false true (num r) (den r) (m * up e) (down e) (den-pos r) (down-pos e) r (fin true m e) own (refl, refl)) at l)
+  from-above (fin false m e) f h l =
+      sum-above m e (counted false m e f)
+      (ltb→lt (num r * down e) (m * up e * den r) (rw (lt-values false false (num r) (den r) (m * up e) (down e) (den-pos r) (down-pos e) r (fin false m e) own (refl, refl)) at l))
 
   is-root : IsRoot x r
   is-root = record {

@@ -25,7 +25,7 @@ pub at-top : (b : ℕ) → 2047 * 2 ^ 52 ≤ b → b < 2 ^ 63 → ofBits binary6
 unfolding ofFields
 at-top b lo hi =
     let e : b / 2 ^ 52 ≡ 2047 = omega arith in
-    subst (λ (v : Float). v ≡ sqrt v) (sym (plus-fields b hi ∙ ap (λ (x : ℕ). ofFields binary64 false x (b % 2 ^ 52)) e)) (go (eqb (b % 2 ^ 52) 0))
+    rw (plus-fields b hi, e) (go (eqb (b % 2 ^ 52) 0))
   where
     go : (t : Bool) → cond t (inf false) nan ≡ sqrt (cond t (inf false) nan)
     go true = unfold sqrt in refl
