@@ -3,20 +3,20 @@
 use mathlib.Core.Path.{_≡_, refl, sym, ap, _∙_, subst}
 use mathlib.Core.Logic.{_⊎_, inl, inr}
 use Prim.Native.Nat.{ℕ, zero, suc, _+_, _-_, _*_, _/_, _%_, _^_, _≤_, _<_}
-use native.Mathlib.Nat.{eq-or-lt-of-le, mod-eq-of-lt, mul-pos, pow-succ'}
+use native.Mathlib.Nat.{zero-mul, zero-div, eq-or-lt-of-le, mod-eq-of-lt, pow-succ'}
 use native.Mathlib.Omega.{arith}
 use mathlib.Core.Bool.{Bool, true, false, not, cond, false≢true}
-use borrow.Author.Tests.{le-leb}
 use lib.Arith.{le→nltb}
 use lib.Dec.{T, eqb}
 use lib.Pow.{pow-pos}
-use lib.Ieee.{Float, nan, inf, fin, binary64, odd, ofFields, ofBits, nanBits, fits}
+use lib.Ieee.{Float, nan, inf, fin, binary64, up, down, odd, ofFields, ofBits, toBits, nanBits, fits}
 use lib.Ieee.Bits.{ofBits-fits, nanBits-above}
 use lib.Ieee.Exact.{HasValue, odd-sign}
 use Rattle.arithmetic.specs.Sqrt.{nearestRoot, sqrt}
 use Rattle.arithmetic.proofs.Units.{unique}
-use Rattle.arithmetic.proofs.Count.{scale, not-zero, plus-fields, count-at}
+use Rattle.arithmetic.proofs.Count.{scale, plus-fields, count-at}
 use Rattle.arithmetic.proofs.Width.{scaled, rootWide, sqrt-wide, scaled-half, root-lo, root-hi, root-fits}
+use Rattle.elementary.specs.Signs.{negative}
 
 -- ---- where the root is no rounding
 
@@ -31,29 +31,15 @@ at-top b lo hi =
     go true = unfold sqrt in refl
     go false = unfold sqrt in refl
 
-negative : (x : Float) (a c : ℕ) → HasValue x true a c → 0 < a → nan ≡ sqrt x
-unfolding sqrt
-negative nan a c v p = absurd v
-negative (inf s) a c v p = absurd v
-negative (fin s zero e) a c v p = absurd (not-zero s e true a c p v)
-negative (fin true (suc m) e) a c v p = refl
-negative (fin false (suc m) e) a c v p = absurd (false≢true (v .0))
-
-negative-fields : (x t : ℕ) → (x ≡ 0 → t ≡ 0 → ⊥) → nan ≡ sqrt (ofFields binary64 true x t)
-unfolding ofFields
-negative-fields zero t h = negative (odd 53 true t 0 1074) (t * 2 ^ 0) (2 ^ 1074) (odd-sign 53 true t 0 1074) (let n : t ≡ 0 → ⊥ = h refl in omega arith)
-negative-fields (suc x) t h = go (eqb (suc x) 2047) (eqb t 0)
-  where
-    go : (a b : Bool) → nan ≡ sqrt (cond a (cond b (inf true) nan) (odd 53 true (2 ^ 52 + t) x 1074))
-    go true true = unfold sqrt in refl
-    go true false = unfold sqrt in refl
-    go false b = negative (odd 53 true (2 ^ 52 + t) x 1074) ((2 ^ 52 + t) * 2 ^ x) (2 ^ 1074) (odd-sign 53 true (2 ^ 52 + t) x 1074) (mul-pos (omega arith) (pow-pos x))
-
--- a pattern with the sign bit and more
-pub below-zero : (b : ℕ) → 2 ^ 63 < b → b < 2 ^ 64 → nan ≡ sqrt (ofBits binary64 b)
-unfolding ofBits
-below-zero b lo hi =
-    rw (le-leb (2 ^ 63) b (omega arith)) (negative-fields (b % 2 ^ 63 / 2 ^ 52) (b % 2 ^ 52) (λ p q. omega arith))
+-- the sign is set, and it is not -0
+pub below-zero : (x : Float) → negative x ≡ true → (toBits binary64 x ≡ 2 ^ 63 → ⊥) → nan ≡ sqrt x
+unfolding sqrt negative toBits
+below-zero nan s z = refl
+below-zero (inf true) s z = refl
+below-zero (inf false) s z = absurd (false≢true s)
+below-zero (fin true zero e) s z = absurd (z (rw (zero-mul (up e), zero-div (down e))))
+below-zero (fin true (suc m) e) s z = refl
+below-zero (fin false m e) s z = absurd (false≢true s)
 
 -- ---- the pattern of q * 2 ^ k of the smallest values, q having 53 digits or being 2 ^ 53
 

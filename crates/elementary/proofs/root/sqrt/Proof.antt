@@ -1,14 +1,15 @@
 -- `sqrt` meets its contract. Assumes nothing.
 use borrow.Author.Needs.{needs}
-use mathlib.Core.Path.{_≡_, sym, ap, _∙_}
-use Prim.Native.Nat.{_^_, _<_}
+use borrow.Author.Tests.{le-leb}
+use mathlib.Core.Path.{_≡_, refl, sym, ap, _∙_, subst}
+use Prim.Native.Nat.{ℕ, _^_}
 use native.Mathlib.Omega.{arith}
 use lib.Dec.{T}
 use lib.Ieee.{binary64, fits, ofBits, toBits}
-use lib.Ieee.Bits.{ofBits-toBits, toBits-lt, ofBits-fits}
+use lib.Ieee.Bits.{ofBits-toBits, ofBits-fits}
 use Rattle.arithmetic.specs.Sqrt.{sqrt}
 use Rattle.arithmetic.proofs.Width.{scaled-half}
-use Rattle.elementary.proofs.SignBit.{is-nan, is-number, zero-by-zero}
+use Rattle.elementary.proofs.SignBit.{is-nan, is-number, zero-by-zero, sign-bit}
 use Rattle.elementary.proofs.RootBits.{at-top, below-zero, made-lt, made-number, made-root}
 use Rattle.elementary.proofs.root.sqrt.Statement.{statement}
 use Rattle.elementary.proofs.root.sqrt.Tie as tie
@@ -26,26 +27,29 @@ returns c = let n = is-nan (c .before .args .x) (c .if1 .taken) in n ∙ ap sqrt
 float-to-bits-b : tie.Need-float-to-bits-b
 float-to-bits-b c = is-number (c .before .args .x) (c .if1 .left)
 
+-- a pattern whose value is its own root
+own : (c : tie.Start) (b : ℕ) → toBits binary64 (c .args .x) ≡ b → ofBits binary64 b ≡ sqrt (ofBits binary64 b) → c .args .x ≡ sqrt (c .args .x)
+own c b e = subst (λ v. v ≡ sqrt v) (ap (ofBits binary64) (sym e) ∙ back c)
+
 returns-2 : tie.Need-returns-2
 unfolding sqrt ofBits
-returns-2 c = let e = sym (back (c .before .before .before)) ∙ ap (ofBits binary64) (c .if3 .taken) in e ∙ ap sqrt (sym e)
+returns-2 c = own (c .before .before .before) (2 ^ 63) (c .if3 .taken) refl
 
 returns-3 : tie.Need-returns-3
 returns-3 c =
     let s = c .before .before .before in
-    let n = c .if3 .left in
-    let b = toBits binary64 (s .args .x) in
-    let l : b < 2 ^ 64 = toBits-lt binary64 (s .args .x) (held s) in
-    zero-by-zero ∙ below-zero b (omega arith) l ∙ ap sqrt (back s)
+    let x = s .args .x in
+    zero-by-zero ∙ below-zero x (sym (sign-bit x (held s) (is-number x (c .before .before .if1 .left))) ∙ le-leb (2 ^ 63) (toBits binary64 x) (c .before .if2 .taken)) (c .if3 .left)
 
 returns-4 : tie.Need-returns-4
 unfolding sqrt ofBits
-returns-4 c = let e = sym (back (c .before .before .before)) ∙ ap (ofBits binary64) (c .if4 .taken) in e ∙ ap sqrt (sym e)
+returns-4 c = own (c .before .before .before) 0 (c .if4 .taken) refl
 
 returns-5 : tie.Need-returns-5
 returns-5 c =
     let s = c .before .before .before .before in
-    sym (back s) ∙ at-top (toBits binary64 (s .args .x)) (c .if5 .taken) (c .before .before .if2 .left) ∙ ap sqrt (back s)
+    let b = toBits binary64 (s .args .x) in
+    own s b refl (at-top b (c .if5 .taken) (c .before .before .if2 .left))
 
 nearest-root-requires : tie.Need-nearest-root-requires
 nearest-root-requires c κs =
