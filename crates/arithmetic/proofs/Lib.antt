@@ -10,3 +10,4 @@ pub mod Count
 pub mod Width
 pub mod Ieee754
 pub mod Quick
+pub mod Bounds
