@@ -5,3 +5,4 @@ pub mod Authalic
 pub mod Gnomonic
 pub mod CoordinateTransforms
 pub mod Conversions
+pub mod Range

@@ -1,0 +1,3 @@
+-- Ranges that answers and angles stay in.
+pub mod SineArguments
+pub mod Longitude
