@@ -1,15 +1,20 @@
--- Document 01's marked points hold, each by computation: the roots in lib.Ieee's own arithmetic, the others in `quick`. Assumes nothing.
+-- Document 01's marked points hold, each by computation: longitudes and roots in lib.Ieee's own arithmetic, the others in `quick`. Assumes nothing.
 use mathlib.Core.Path.{_≡_, refl}
-use lib.Ieee.{binary64, ofBits}
+use lib.Ieee.{binary64, add, sub, rem, ofBits}
 use Rattle.arithmetic.specs.Sqrt.{sqrt}
 use Rattle.arithmetic.proofs.Quick.{quick, in-ieee}
 use Rattle.elementary.specs.Whole.{floor, round}
+use Rattle.coordinates.specs.CoordinateTransforms.{normalizeLongitude}
 use Rattle.known_points.specs.Marked.{Marked}
 
 pub marked : Marked
-unfolding sqrt floor round ofBits quick
+unfolding normalizeLongitude add sub rem sqrt floor round ofBits quick
 marked =
     record {
+      longitude-of-180 = refl;
+      longitude-of-minus-180 = refl;
+      longitude-of-540 = refl;
+      longitude-of-minus-93 = refl;
       root-of-4 = refl;
       root-of-2 = refl;
       root-of-minus-0 = refl;

@@ -4,8 +4,15 @@ use lib.Ieee.{binary64, ofBits}
 use Rattle.arithmetic.specs.Arith.{ieee}
 use Rattle.arithmetic.specs.Sqrt.{sqrt}
 use Rattle.elementary.specs.Whole.{floor, round}
+use Rattle.coordinates.specs.CoordinateTransforms.{degrees, normalizeLongitude}
 
 pub record Marked : Type 0 where
+  -- "normalize_longitude of 180, −180 and 540 gives −180"
+  pub longitude-of-180 : normalizeLongitude ieee (degrees (ofBits binary64 0x4066_8000_0000_0000)) ≡ degrees (ofBits binary64 0xc066_8000_0000_0000)
+  pub longitude-of-minus-180 : normalizeLongitude ieee (degrees (ofBits binary64 0xc066_8000_0000_0000)) ≡ degrees (ofBits binary64 0xc066_8000_0000_0000)
+  pub longitude-of-540 : normalizeLongitude ieee (degrees (ofBits binary64 0x4080_e000_0000_0000)) ≡ degrees (ofBits binary64 0xc066_8000_0000_0000)
+  -- "of −93 gives −93"
+  pub longitude-of-minus-93 : normalizeLongitude ieee (degrees (ofBits binary64 0xc057_4000_0000_0000)) ≡ degrees (ofBits binary64 0xc057_4000_0000_0000)
   -- "sqrt 4 is 2"
   pub root-of-4 : sqrt (ofBits binary64 0x4010_0000_0000_0000) ≡ ofBits binary64 0x4000_0000_0000_0000
   -- "of 2 has bits 3ff6a09e667f3bcd"
