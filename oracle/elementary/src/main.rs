@@ -1,38 +1,28 @@
-// Writes the oracle's answers to standard output, a record of 25 bytes each, or with the word `test` tries its own steps.
-// A record is the function's number, the bits of its first and of its second argument, 0 where it has one, and those of
-// its answer, big-endian. Every NaN answer is written 7ff8000000000000.
+// Writes the oracle's answers to standard output, or with the word `test` tries its own steps.
 
+#[path = "../../common/generator.rs"]
 mod generator;
 mod inputs;
+#[allow(dead_code)]
+#[path = "../../common/list.rs"]
+mod list;
 mod selftest;
 mod steps;
+#[path = "../../common/values.rs"]
+mod values;
 
 use generator::Generator;
-use std::io::Write;
+use list::List;
 
-const NAN: u64 = 0x7ff8000000000000;
-
-fn record(list: &mut Vec<u8>, number: u8, first: u64, second: u64, answer: f64) {
-    let answer = if answer.is_nan() {
-        NAN
-    } else {
-        answer.to_bits()
-    };
-    list.push(number);
-    list.extend(first.to_be_bytes());
-    list.extend(second.to_be_bytes());
-    list.extend(answer.to_be_bytes());
-}
-
-fn records(list: &mut Vec<u8>, number: u8, function: fn(f64) -> f64, arguments: &[f64]) {
+fn records(list: &mut List, number: u8, function: fn(f64) -> f64, arguments: &[f64]) {
     for x in arguments {
-        record(list, number, x.to_bits(), 0, function(*x));
+        list.answered(number, &[*x], &[function(*x)]);
     }
 }
 
-fn answers() -> Vec<u8> {
+fn answers() -> List {
     let mut g = Generator::new(1);
-    let mut list = Vec::new();
+    let mut list = List::new();
     let plain = inputs::plain(&mut g);
     records(&mut list, 1, steps::abs, &plain);
     records(&mut list, 2, steps::max_zero, &plain);
@@ -47,7 +37,11 @@ fn answers() -> Vec<u8> {
     records(&mut list, 9, steps::core, &inputs::quotients(&mut g));
     records(&mut list, 10, steps::atan, &inputs::tangents(&mut g));
     for (y, x) in inputs::points(&mut g) {
-        record(&mut list, 11, y.to_bits(), x.to_bits(), steps::atan2(y, x));
+        list.answered(11, &[y, x], &[steps::atan2(y, x)]);
+    }
+    for x in angles {
+        let both = steps::sin_cos(x);
+        list.answered(12, &[x], &[both.sin, both.cos]);
     }
     list
 }
@@ -57,7 +51,5 @@ fn main() {
         selftest::run();
         return;
     }
-    std::io::stdout()
-        .write_all(&answers())
-        .expect("standard output takes the list");
+    answers().write();
 }

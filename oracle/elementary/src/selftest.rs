@@ -2,7 +2,7 @@
 // where they are not; and document 01's marked points.
 
 use crate::generator::Generator;
-use crate::{inputs, steps};
+use crate::{inputs, steps, values};
 
 fn same(a: f64, b: f64) -> bool {
     a.to_bits() == b.to_bits() || a.is_nan() && b.is_nan()
@@ -33,7 +33,7 @@ fn one(x: f64) {
 }
 
 fn exact_ones(g: &mut Generator) {
-    for x in inputs::specials()
+    for x in values::specials()
         .into_iter()
         .chain(inputs::roots(g))
         .chain(inputs::wholes(g))

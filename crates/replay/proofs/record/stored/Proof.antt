@@ -1,0 +1,19 @@
+-- `record::stored` meets its contract. Assumes nothing.
+use borrow.Author.Needs.{needs}
+use Rattle.replay.proofs.record.stored.Statement.{statement}
+use Rattle.replay.proofs.record.stored.Tie as tie
+
+returns : tie.Need-returns
+returns c = rw (c .word3 .ensures, c .before .word2 .ensures, c .before .before .word .ensures)
+
+pub stored-spec : {M : Type 1} → statement M
+stored-spec =
+    tie.close
+    (tie.spec
+    (λ c. search needs)
+    (λ c κs. search needs)
+    (λ c. search needs)
+    (λ c κs. search needs)
+    (λ c. search needs)
+    (λ c κs. search needs)
+    returns)

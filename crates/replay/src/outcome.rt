@@ -1,0 +1,81 @@
+// What a function comes to, as a list stores it.
+use crate::pattern::bits;
+ghost use mathlib.Core.Path.{_≡_};
+ghost use lib.Ieee.{binary64, toBits};
+ghost use Rattle.replay.specs.Outcome.{outcomeOf, same};
+
+// 0 and the answers' bits, or the number of the refusal and no answers. A place past the count holds 0.
+pub struct Outcome {
+    pub status: u8,
+    pub count: u8,
+    pub first: u64,
+    pub second: u64,
+    pub third: u64,
+}
+
+pub fn one(x: f64) -> Outcome
+    ensures { λ r. ⌜ r ≡ outcomeOf 0 1 (toBits binary64 x) 0 0 ⌝ }
+{
+    Outcome {
+        status: 0,
+        count: 1,
+        first: bits(x),
+        second: 0,
+        third: 0,
+    }
+}
+
+pub fn two(x: f64, y: f64) -> Outcome
+    ensures { λ r. ⌜ r ≡ outcomeOf 0 2 (toBits binary64 x) (toBits binary64 y) 0 ⌝ }
+{
+    Outcome {
+        status: 0,
+        count: 2,
+        first: bits(x),
+        second: bits(y),
+        third: 0,
+    }
+}
+
+pub fn three(x: f64, y: f64, z: f64) -> Outcome
+    ensures { λ r. ⌜ r ≡ outcomeOf 0 3 (toBits binary64 x) (toBits binary64 y) (toBits binary64 z) ⌝ }
+{
+    Outcome {
+        status: 0,
+        count: 3,
+        first: bits(x),
+        second: bits(y),
+        third: bits(z),
+    }
+}
+
+pub fn refused(number: u8) -> Outcome
+    ensures { λ r. ⌜ r ≡ outcomeOf number 0 0 0 0 ⌝ }
+{
+    Outcome {
+        status: number,
+        count: 0,
+        first: 0,
+        second: 0,
+        third: 0,
+    }
+}
+
+// Whether two outcomes are the same in every place.
+pub fn agree(a: Outcome, b: Outcome) -> bool
+    ensures { λ r. ⌜ r ≡ same a b ⌝ }
+{
+    if a.status != b.status {
+        return false;
+    }
+    if a.count != b.count {
+        return false;
+    }
+    if a.first != b.first {
+        return false;
+    }
+    if a.second != b.second {
+        return false;
+    }
+    a.third == b.third
+}

@@ -1,0 +1,129 @@
+// A record of a list: a head of four bytes, then a word of eight bytes, big-endian, for each argument and each answer.
+use crate::outcome::Outcome;
+use crate::pattern::value;
+use crate::report;
+use libc::STDIN_FILENO;
+ghost use mathlib.Core.Path.{_≡_};
+ghost use mathlib.Core.Bool.{false};
+ghost use Prim.Native.Nat.{_+_, _*_, _≤_, _<_};
+ghost use lib.Ieee.{binary64, ofBits};
+ghost use lib.ListN.{length};
+ghost use Rattle.replay.specs.Record.{fourOf, fourAt, wordAt, storedIn, WellFormed, Ready};
+
+// The function's number, 0 or the number of its refusal, and how many words are arguments and answers.
+pub struct Head {
+    pub number: u8,
+    pub status: u8,
+    pub arguments: u8,
+    pub answers: u8,
+}
+
+// A record, or that none follows: the list has ended, or is malformed, which is then said.
+pub enum Next {
+    Record(Head),
+    Done,
+}
+
+fn wide(x: u8) -> u64
+    ensures { λ r. ⌜ r ≡ x ⌝ }
+    ensures { λ r. ⌜ r < 256 ⌝ }
+{
+    x as u64
+}
+
+fn of_four(a: u8, b: u8, c: u8, d: u8) -> u64
+    ensures { λ r. ⌜ r ≡ fourOf a b c d ⌝ }
+    ensures { λ r. ⌜ r < 4294967296 ⌝ }
+{
+    wide(a) * 16777216 + wide(b) * 65536 + wide(c) * 256 + wide(d)
+}
+
+fn four(words: &[u8; 96], at: usize) -> u64
+    requires { ⌜ at ≤ 92 ⌝ }
+    ensures { λ r. ⌜ r ≡ fourAt (now (words .entry)) at ⌝ }
+    ensures { λ r. ⌜ r < 4294967296 ⌝ }
+{
+    of_four(words[at], words[at + 1], words[at + 2], words[at + 3])
+}
+
+// The word at a place, counted from 0.
+pub fn word(words: &[u8; 96], place: usize) -> u64
+    requires { ⌜ place < 12 ⌝ }
+    ensures { λ r. ⌜ r ≡ wordAt (now (words .entry)) place ⌝ }
+{
+    four(words, 8 * place) * 4294967296 + four(words, 8 * place + 4)
+}
+
+// The argument at a place.
+pub fn argument(words: &[u8; 96], place: usize) -> f64
+    requires { ⌜ place < 12 ⌝ }
+    ensures { λ r. ⌜ r ≡ ofBits binary64 (wordAt (now (words .entry)) place) ⌝ }
+{
+    value(word(words, place))
+}
+
+// The outcome that the record has. Where it has fewer than three answers, the words after them are 0.
+pub fn stored(head: Head, words: &[u8; 96]) -> Outcome
+    requires { ⌜ head .arguments ≤ 9 ⌝ }
+    ensures { λ r. ⌜ r ≡ storedIn head (now (words .entry)) ⌝ }
+{
+    let place = head.arguments as usize;
+    Outcome {
+        status: head.status,
+        count: head.answers,
+        first: word(words, place),
+        second: word(words, place + 1),
+        third: word(words, place + 2),
+    }
+}
+
+// Whether the program has no function of this number with so many arguments. takes has a digit for each number, 0 for
+// none.
+fn is_unknown(head: Head, takes: &[u8]) -> bool
+    ensures { λ r. ⌜ (r ≡ false → WellFormed head) ⌝ }
+{
+    let number = head.number as usize;
+    if number > 31 || number >= takes.len() {
+        return true;
+    }
+    if head.answers > 3 || head.arguments == 0 {
+        return true;
+    }
+    if head.arguments > 9 {
+        return true;
+    }
+    takes[number] != b'0' + head.arguments
+}
+
+// Reads a record. The words that it does not have keep what they hold.
+pub fn read(takes: &[u8], words: &mut [u8]) -> Next
+    requires { ⌜ length (now words) ≡ 96 ⌝ }
+    ensures { λ r. ⌜ Ready r ⌝ }
+{
+    let mut s = [0u8; 4];
+    let n = io::read_full(STDIN_FILENO, &mut s);
+    if n == 0 {
+        return Next::Done;
+    }
+    if n < 4 {
+        report::cut_off();
+        return Next::Done;
+    }
+    let head = Head {
+        number: s[0],
+        status: s[1],
+        arguments: s[2],
+        answers: s[3],
+    };
+    if is_unknown(head, takes) {
+        report::unknown(head.number, head.arguments, head.answers);
+        return Next::Done;
+    }
+    let size = 8 * (head.arguments as usize + head.answers as usize);
+    let n = io::read_full(STDIN_FILENO, &mut words[..size]);
+    if n < size {
+        report::cut_off();
+        return Next::Done;
+    }
+    Next::Record(head)
+}

@@ -1,0 +1,113 @@
+// What a program writes. The functions' names stand in one text, each after a space, in the order of their numbers.
+use crate::outcome::Outcome;
+use crate::record::Head;
+use crate::record::word;
+use libc::STDOUT_FILENO;
+ghost use Prim.Native.Nat.{_+_, _≤_};
+
+// Writes the name after the number-th space.
+fn name(names: &[u8], number: u8) {
+    let mut spaces: u8 = 0;
+    let mut i: usize = 0;
+    while i < names.len() {
+        if names[i] == b' ' {
+            spaces = std::num::wrapping_add_u8(spaces, 1);
+        } else if spaces == number {
+            io::write_all(STDOUT_FILENO, &[names[i]]);
+        }
+        i += 1;
+    }
+}
+
+fn field(bits: u64) {
+    io::write_all(STDOUT_FILENO, b" ");
+    io::print_hex(STDOUT_FILENO, bits, 16);
+}
+
+fn decimal(number: u8) {
+    io::print_decimal(STDOUT_FILENO, number as u64);
+}
+
+fn arguments(words: &[u8; 96], count: usize)
+    requires { ⌜ count ≤ 9 ⌝ }
+{
+    let mut place: usize = 0;
+    while place < count {
+        field(word(words, place));
+        place += 1;
+    }
+}
+
+// A refusal's number, or as many of the three places as there are answers.
+fn outcome(o: Outcome) {
+    if o.status > 0 {
+        io::write_all(STDOUT_FILENO, b" refusal ");
+        decimal(o.status);
+    }
+    if o.count > 0 {
+        field(o.first);
+    }
+    if o.count > 1 {
+        field(o.second);
+    }
+    if o.count > 2 {
+        field(o.third);
+    }
+}
+
+// A record that differs: its function, its arguments, the stored outcome and the one that was given.
+pub fn difference(names: &[u8], head: Head, words: &[u8; 96], stored: Outcome, given: Outcome)
+    requires { ⌜ head .arguments ≤ 9 ⌝ }
+{
+    name(names, head.number);
+    io::write_all(STDOUT_FILENO, b" at");
+    arguments(words, head.arguments as usize);
+    io::write_all(STDOUT_FILENO, b" stored");
+    outcome(stored);
+    io::write_all(STDOUT_FILENO, b" given");
+    outcome(given);
+    io::write_all(STDOUT_FILENO, b"\n");
+}
+
+pub fn unknown(number: u8, arguments: u8, answers: u8) {
+    io::write_all(STDOUT_FILENO, b"malformed list: function ");
+    decimal(number);
+    io::write_all(STDOUT_FILENO, b" with ");
+    decimal(arguments);
+    io::write_all(STDOUT_FILENO, b" arguments and ");
+    decimal(answers);
+    io::write_all(STDOUT_FILENO, b" answers\n");
+}
+
+pub fn cut_off() {
+    io::write_all(STDOUT_FILENO, b"malformed list: cut off inside a record\n");
+}
+
+pub fn too_long() {
+    io::write_all(STDOUT_FILENO, b"malformed list: too long\n");
+}
+
+fn summary(names: &[u8], number: u8, compared: u64, differ: u64) {
+    name(names, number);
+    io::write_all(STDOUT_FILENO, b" ");
+    io::print_decimal(STDOUT_FILENO, compared);
+    io::write_all(STDOUT_FILENO, b" compared, ");
+    io::print_decimal(STDOUT_FILENO, differ);
+    io::write_all(STDOUT_FILENO, b" differ\n");
+}
+
+// A line for each function, up to and with the last.
+pub fn summaries(names: &[u8], last: u8, compared: &[u64; 32], differ: &[u64; 32])
+    requires { ⌜ last ≤ 31 ⌝ }
+{
+    let mut number: u8 = 1;
+    while number <= last {
+        summary(
+            names,
+            number,
+            compared[number as usize],
+            differ[number as usize],
+        );
+        number += 1;
+    }
+}
