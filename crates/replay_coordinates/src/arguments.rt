@@ -1,0 +1,80 @@
+// A record's arguments as the values of crate coordinates, from a place on, in the order of their fields.
+use coordinates::base::Degrees;
+use coordinates::base::Radians;
+use coordinates::coords::Barycentric;
+use coordinates::coords::Cartesian;
+use coordinates::coords::Face;
+use coordinates::coords::FaceTriangle;
+use coordinates::lonlat::LonLat;
+use coordinates::polar::Polar;
+use coordinates::spherical::Spherical;
+use coordinates::vec2::Vec2;
+use coordinates::vec3::Vec3;
+use replay::record::argument;
+ghost use Prim.Native.Nat.{_≤_};
+
+pub fn degrees(words: &[u8; 96]) -> Degrees {
+    Degrees(argument(words, 0))
+}
+
+pub fn radians(words: &[u8; 96]) -> Radians {
+    Radians(argument(words, 0))
+}
+
+pub fn lon_lat(words: &[u8; 96]) -> LonLat {
+    LonLat {
+        longitude: Degrees(argument(words, 0)),
+        latitude: Degrees(argument(words, 1)),
+    }
+}
+
+pub fn polar(words: &[u8; 96]) -> Polar {
+    Polar {
+        rho: argument(words, 0),
+        gamma: Radians(argument(words, 1)),
+    }
+}
+
+pub fn spherical(words: &[u8; 96]) -> Spherical {
+    Spherical {
+        theta: Radians(argument(words, 0)),
+        phi: Radians(argument(words, 1)),
+    }
+}
+
+pub fn barycentric(words: &[u8; 96]) -> Barycentric {
+    Barycentric {
+        u: argument(words, 0),
+        v: argument(words, 1),
+        w: argument(words, 2),
+    }
+}
+
+pub fn face(words: &[u8; 96], place: usize) -> Face
+    requires { ⌜ place ≤ 10 ⌝ }
+{
+    Face(Vec2 {
+        x: argument(words, place),
+        y: argument(words, place + 1),
+    })
+}
+
+pub fn triangle(words: &[u8; 96], place: usize) -> FaceTriangle
+    requires { ⌜ place ≤ 6 ⌝ }
+{
+    FaceTriangle {
+        a: face(words, place),
+        b: face(words, place + 2),
+        c: face(words, place + 4),
+    }
+}
+
+pub fn cartesian(words: &[u8; 96], place: usize) -> Cartesian
+    requires { ⌜ place ≤ 9 ⌝ }
+{
+    Cartesian(Vec3 {
+        x: argument(words, place),
+        y: argument(words, place + 1),
+        z: argument(words, place + 2),
+    })
+}

@@ -1,0 +1,43 @@
+// The two conversions as calls. The Rust refuses nothing: the refusals are document 01's, under its words.
+
+use a5::coordinate_systems::{LonLat, Spherical};
+use a5::core::coordinate_transforms;
+
+// "5: a number is infinite or NaN. 6: a number is outside its range." "Each number is tried for 5 and then 6 before the
+// next one." "Ranges, ends included."
+fn check(numbers: [f64; 2], limits: [f64; 2]) -> Result<(), u8> {
+    for (x, limit) in numbers.into_iter().zip(limits) {
+        if !x.is_finite() {
+            return Err(5);
+        }
+        if x < -limit || x > limit {
+            return Err(6);
+        }
+    }
+    Ok(())
+}
+
+// "9: the answer would have a number that isn't finite."
+fn finite(numbers: [f64; 2]) -> Result<(), u8> {
+    if numbers.into_iter().all(f64::is_finite) {
+        Ok(())
+    } else {
+        Err(9)
+    }
+}
+
+// "longitude ±360, latitude ±90"; "longitude, latitude".
+pub fn from_lon_lat(l: LonLat) -> Result<Spherical, u8> {
+    check([l.longitude(), l.latitude()], [360.0, 90.0])?;
+    let answer = coordinate_transforms::from_lon_lat(l);
+    finite([answer.theta().get(), answer.phi().get()])?;
+    Ok(answer)
+}
+
+// "theta and phi ±8"; "theta, phi".
+pub fn to_lon_lat(s: Spherical) -> Result<LonLat, u8> {
+    check([s.theta().get(), s.phi().get()], [8.0, 8.0])?;
+    let answer = coordinate_transforms::to_lon_lat(s);
+    finite([answer.longitude(), answer.latitude()])?;
+    Ok(answer)
+}
