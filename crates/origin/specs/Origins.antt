@@ -83,7 +83,7 @@ module _ (A : Arith) where
   unfolding generateOrigins rows rowOf
   generatedTable = rows generateOrigins
 
--- ---- the built-in table, by its bits, a row a line. That it is `generatedTable ieee` is computed (crate `opened`).
+-- ---- the built-in table, by its bits, a row a line. That it is `generatedTable ieee` is computed (`proofs/Generated`).
 
 unfoldable pub ORIGINS : List Float
 unfolding ofBits
