@@ -1,0 +1,3 @@
+-- Laws behind the proofs of the functions, and of the triangle index.
+pub mod Figure
+pub mod Modulo

@@ -1,0 +1,62 @@
+-- `index::whole_modulo` meets its contract: below 2^52 by the whole part itself, from there on by what the size leaves by 10.0, which is exact. Assumes nothing.
+use mathlib.Core.Path.{_≡_, sym, ap, _∙_, subst}
+use mathlib.Core.Bool.{not}
+use Prim.Native.Nat.{_%_}
+use native.Mathlib.Nat.{mod-mod}
+use borrow.Author.Tests.{not-true, not-false}
+use lib.Dec.{T}
+use lib.Ieee.{binary64, rem, ofBits}
+use Rattle.elementary.proofs.SignBit.{abs-fits}
+use Rattle.elementary.proofs.Fraction.{Below, below, cut-below}
+use Rattle.tiling.proofs.Modulo.{modulo-is, not-finite, LastDigit, last-digit}
+use Rattle.tiling.proofs.index.whole_modulo.Statement.{statement}
+use Rattle.tiling.proofs.index.whole_modulo.Tie as tie
+
+small : (c : tie.Then1) → Below (c .before .before .args .x) (c .before .abs .result)
+unfolding ofBits
+small c = below (c .before .before .args .x) (c .before .abs .result) (c .before .abs .ensures) (ap not (c .if1 .taken))
+
+truncating-f64-to-u64-requires : tie.Need-truncating-f64-to-u64-requires
+truncating-f64-to-u64-requires c κs = cut-below (c .before .before .before .args .x) (c .before .before .abs .result) (small (c .before)) .asks
+
+returns : tie.Need-returns
+returns c =
+    c .modulo .ensures
+    ∙ modulo-is (c .before .before .before .before .before .args .x) (c .before .before .negative .result) (c .before .truncating-f64-to-u64 .result) (c .before .before .negative .ensures)
+    (ap (λ k. k % 10) (c .before .truncating-f64-to-u64 .ensures ∙ cut-below (c .before .before .before .before .before .args .x) (c .before .before .before .before .abs .result) (small (c .before .before .before)) .is))
+
+returns-2 : tie.Need-returns-2
+returns-2 c = not-finite (c .before .before .before .before .args .x) (sym (c .before .is-finite .ensures) ∙ not-true _ (c .if2 .taken))
+
+digit : (c : tie.Else2) → LastDigit (c .before .before .before .before .args .x) (rem binary64 (c .before .before .before .abs .result) (ofBits binary64 0x4024_0000_0000_0000))
+digit c =
+    let x = c .before .before .before .before .args .x in
+    let a = c .before .before .before .abs in
+    last-digit x (a .result) (rw (a .ensures) (abs-fits x (subst T (sym (c .before .before .before .before .good .0 .1)) tt)))
+    (sym (c .before .is-finite .ensures) ∙ not-false _ (c .if2 .left))
+    (a .ensures)
+
+truncating-f64-to-u64-requires-2 : tie.Need-truncating-f64-to-u64-requires-2
+truncating-f64-to-u64-requires-2 c κs = digit (c .before) .asks
+
+returns-3 : tie.Need-returns-3
+returns-3 c =
+    c .modulo2 .ensures
+    ∙ modulo-is (c .before .before .before .before .before .before .before .args .x) (c .before .before .negative2 .result) (c .before .truncating-f64-to-u642 .result) (c .before .before .negative2 .ensures)
+    (ap (λ k. k % 10) (c .before .truncating-f64-to-u642 .ensures ∙ digit (c .before .before .before) .is) ∙ mod-mod _ 10)
+
+pub whole-modulo-spec : {M : Type 1} → statement M
+whole-modulo-spec =
+    tie.close
+    (tie.spec
+    (λ c κs. tt)
+    (λ c κs. tt)
+    truncating-f64-to-u64-requires
+    (λ c κs. tt)
+    returns
+    (λ c κs. tt)
+    returns-2
+    (λ c κs. tt)
+    truncating-f64-to-u64-requires-2
+    (λ c κs. tt)
+    returns-3)
