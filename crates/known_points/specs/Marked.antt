@@ -1,10 +1,13 @@
 -- Document 01, "Known points": those marked (M), as one claim, in its order. A value is written by its bits, with the number beside it. Definitions only.
 use mathlib.Core.Path.{_≡_}
-use lib.Ieee.{binary64, ofBits}
+use lib.Ieee.{binary64, neg, ofBits}
 use Rattle.arithmetic.specs.Arith.{ieee}
 use Rattle.arithmetic.specs.Sqrt.{sqrt}
+use Rattle.elementary.specs.Constants.{0·0}
 use Rattle.elementary.specs.Whole.{floor, round}
-use Rattle.coordinates.specs.CoordinateTransforms.{degrees, normalizeLongitude}
+use Rattle.coordinates.specs.CoordinateTransforms.{degrees, radians, normalizeLongitude}
+use Rattle.origin.specs.Constants.{PI-OVER-5}
+use Rattle.tiling.specs.Index.{triangleIndex}
 
 pub record Marked : Type 0 where
   -- "normalize_longitude of 180, −180 and 540 gives −180"
@@ -27,3 +30,7 @@ pub record Marked : Type 0 where
   pub round-of-half : round ieee (ofBits binary64 0x3fe0_0000_0000_0000) ≡ ofBits binary64 0x3ff0_0000_0000_0000
   -- "−2.5 is −3"
   pub round-of-minus-5-halves : round ieee (ofBits binary64 0xc004_0000_0000_0000) ≡ ofBits binary64 0xc008_0000_0000_0000
+  -- "gamma −π/5 gives index 9", π/5 being the quotient of the double π and 5.0
+  pub index-minus-fifth : triangleIndex ieee (radians (neg PI-OVER-5)) ≡ 9
+  -- "gamma 0 gives 0"
+  pub index-0 : triangleIndex ieee (radians 0·0) ≡ 0

@@ -2,12 +2,9 @@
 use lib.Ieee.{Float, binary64, div, ofBits}
 use Rattle.elementary.specs.Constants.{TAU, PI}
 
--- 5.0 and 10.0
+-- 5.0
 abbrev pub 5·0 : Float
 5·0 = ofBits binary64 0x4014_0000_0000_0000
-
-abbrev pub 10·0 : Float
-10·0 = ofBits binary64 0x4024_0000_0000_0000
 
 -- TAU / 5.0
 unfoldable pub TWO-PI-OVER-5 : Float
@@ -18,11 +15,6 @@ TWO-PI-OVER-5 = div binary64 TAU 5·0
 unfoldable pub PI-OVER-5 : Float
 unfolding div PI ofBits
 PI-OVER-5 = div binary64 PI 5·0
-
--- PI / 10.0
-unfoldable pub PI-OVER-10 : Float
-unfolding div PI ofBits
-PI-OVER-10 = div binary64 PI 10·0
 
 -- 1.1071487177940904
 unfoldable pub INTERHEDRAL-ANGLE : Float

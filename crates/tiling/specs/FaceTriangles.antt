@@ -10,7 +10,7 @@ use Rattle.coordinates.specs.Constants.{2·0}
 use Rattle.coordinates.specs.CoordinateTransforms.{face}
 use Rattle.coordinates.specs.declared.coords.Face.{Face}
 use Rattle.coordinates.specs.declared.coords.FaceTriangle.{FaceTriangle}
-use Rattle.tiling.specs.Constants.{INTERHEDRAL-ANGLE}
+use Rattle.origin.specs.Constants.{INTERHEDRAL-ANGLE}
 use Rattle.tiling.specs.Pentagon.{x, y}
 use Rattle.tiling.specs.Tiling.{getQuintantVertices}
 use Rattle.tiling.specs.declared.tiling.QuintantVertices.{QuintantVertices}

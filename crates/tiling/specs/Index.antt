@@ -8,7 +8,7 @@ use Rattle.elementary.specs.Whole.{floor, round}
 use Rattle.coordinates.specs.CoordinateTransforms.{radians, toFace}
 use Rattle.coordinates.specs.declared.base.Radians.{Radians}
 use Rattle.coordinates.specs.declared.polar.Polar.{Polar}
-use Rattle.tiling.specs.Constants.{PI-OVER-5, TWO-PI-OVER-5, DISTANCE-TO-EDGE}
+use Rattle.origin.specs.Constants.{PI-OVER-5, TWO-PI-OVER-5, DISTANCE-TO-EDGE}
 use Rattle.tiling.specs.Pentagon.{x}
 
 -- the Rust's `as i32` on whole numbers, which have no bounds here: toward zero, and 0 for a NaN. An infinity, which is no whole number, gives 0 too.

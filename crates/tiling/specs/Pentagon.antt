@@ -12,7 +12,7 @@ use Rattle.elementary.specs.Arctangent.{atan2}
 use Rattle.coordinates.specs.Constants.{2·0}
 use Rattle.coordinates.specs.CoordinateTransforms.{face}
 use Rattle.coordinates.specs.declared.coords.Face.{Face}
-use Rattle.tiling.specs.Constants.{PI-OVER-5, DISTANCE-TO-EDGE}
+use Rattle.origin.specs.Constants.{PI-OVER-5, DISTANCE-TO-EDGE}
 
 abbrev pub x : Face → Float
 x p = p .0 .x

@@ -7,7 +7,7 @@ use Rattle.arithmetic.specs.Arith.{Arith}
 use Rattle.elementary.specs.Sine.{sinCos}
 use Rattle.coordinates.specs.CoordinateTransforms.{face}
 use Rattle.coordinates.specs.declared.coords.Face.{Face}
-use Rattle.tiling.specs.Constants.{TWO-PI-OVER-5}
+use Rattle.origin.specs.Constants.{TWO-PI-OVER-5}
 use Rattle.tiling.specs.Pentagon.{x, y, vertex, shape, triangle}
 use Rattle.tiling.specs.declared.tiling.QuintantVertices.{QuintantVertices}
 

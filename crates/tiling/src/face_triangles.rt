@@ -1,5 +1,4 @@
 // The face triangles: base, reflected and squashed.
-use crate::tiling::QuintantVertices;
 use crate::tiling::get_quintant_vertices;
 use coordinates::coords::Face;
 use coordinates::coords::FaceTriangle;

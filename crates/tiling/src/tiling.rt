@@ -13,32 +13,37 @@ pub struct QuintantVertices {
 }
 
 // For each quintant x and y of its centre and its two corners: what the Rust computes once from the
-// figure and five rotations. The centre is turned too, and two of its zeros are -0.
+// figure and five rotations. The centre is turned too, which makes -0 of two zeros.
 const QUINTANTS: [f64; 30] = [
+    // quintant 0
     0.0,
     0.0,
     0.6180339887498949,
     0.4490279765795854,
     0.6180339887498949,
     -0.4490279765795854,
+    // quintant 1
     0.0,
     0.0,
     -0.23606797749978964,
     0.7265425280053609,
     0.6180339887498949,
     0.4490279765795854,
-    -0.0,
+    // quintant 2
+    -0.0, // the turned x of the centre
     0.0,
     -0.7639320225002104,
     1.6653345369377348e-16,
     -0.23606797749978964,
     0.726542528005361,
+    // quintant 3
     0.0,
-    -0.0,
+    -0.0, // the turned y of the centre
     -0.23606797749978986,
     -0.7265425280053608,
     -0.7639320225002104,
     5.551115123125783e-17,
+    // quintant 4
     0.0,
     0.0,
     0.6180339887498948,

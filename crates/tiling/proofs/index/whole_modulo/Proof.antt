@@ -1,5 +1,5 @@
 -- `index::whole_modulo` meets its contract: below 2^52 by the whole part itself, from there on by what the size leaves by 10.0, which is exact. Assumes nothing.
-use mathlib.Core.Path.{_≡_, sym, ap, _∙_, subst}
+use mathlib.Core.Path.{sym, ap, _∙_, subst}
 use mathlib.Core.Bool.{not}
 use Prim.Native.Nat.{_%_}
 use native.Mathlib.Nat.{mod-mod}

@@ -1,6 +1,5 @@
 -- `tiling::get_quintant_vertices` meets its contract: its line of the table is what the definition computes. Assumes nothing.
 use borrow.Author.Needs.{needs}
-use lib.Ieee.{ofBits}
 use Rattle.tiling.proofs.Figure.{line, line-is}
 use Rattle.tiling.proofs.tiling.get_quintant_vertices.Statement.{statement}
 use Rattle.tiling.proofs.tiling.get_quintant_vertices.Tie as tie
