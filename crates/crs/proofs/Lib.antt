@@ -1,0 +1,4 @@
+-- Laws behind the proofs of the functions.
+pub mod Search
+pub mod Stores
+pub mod Rows

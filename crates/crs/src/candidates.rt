@@ -1,0 +1,78 @@
+// The 132 points that are tried as rows of the frame.
+use coordinates::base::Radians;
+use coordinates::coordinate_transforms::to_cartesian;
+use coordinates::coords::Cartesian;
+use coordinates::spherical::Spherical;
+use coordinates::vec3::Vec3;
+use elementary::arctangent::atan;
+use origin::origin::get_origin;
+use origin::quaternion::transform_quat;
+use origin::utils::Origin;
+ghost use mathlib.Core.Path.{_≡_};
+ghost use Rattle.arithmetic.specs.Arith.{ieee};
+ghost use Rattle.origin.specs.Origins.{ORIGINS};
+ghost use Rattle.crs.specs.Candidates.{normalize, around, faceCenter, vertex, midpoint, candidate};
+
+const PI: f64 = 3.141592653589793;
+
+const DISTANCE_TO_EDGE: f64 = 0.6180339887498949;
+
+const DISTANCE_TO_VERTEX: f64 = 0.7639320225002102;
+
+pub fn normalize(v: Cartesian) -> Cartesian
+    ensures { λ r. ⌜ r ≡ normalize ieee v ⌝ }
+{
+    let length = coordinates::vector::length(v);
+    if length == 0.0 {
+        return v;
+    }
+    Cartesian(Vec3 {
+        x: v.0.x / length,
+        y: v.0.y / length,
+        z: v.0.z / length,
+    })
+}
+
+// m tenths of a turn from the origin's angle, and phi from its axis.
+fn around(origin: Origin, m: u8, phi: f64) -> Cartesian
+    ensures { λ r. ⌜ r ≡ around ieee origin m phi ⌝ }
+{
+    let theta = m as f64 * PI / 5.0;
+    let spherical = Spherical {
+        theta: Radians(theta + origin.angle.0),
+        phi: Radians(phi),
+    };
+    transform_quat(to_cartesian(spherical), origin.quat)
+}
+
+fn face_center(k: u8) -> Cartesian
+    ensures { λ r. ⌜ r ≡ faceCenter ieee ORIGINS k ⌝ }
+{
+    let origin = get_origin(k);
+    to_cartesian(origin.axis)
+}
+
+fn vertex(k: u8) -> Cartesian
+    ensures { λ r. ⌜ r ≡ vertex ieee ORIGINS k ⌝ }
+{
+    around(get_origin(k / 5), 2 * (k % 5) + 1, atan(DISTANCE_TO_VERTEX))
+}
+
+fn midpoint(k: u8) -> Cartesian
+    ensures { λ r. ⌜ r ≡ midpoint ieee ORIGINS k ⌝ }
+{
+    around(get_origin(k / 5), 2 * (k % 5), atan(DISTANCE_TO_EDGE))
+}
+
+// In the Rust's order: 12 centres, five vertices of each face, five midpoints of each.
+pub fn candidate(k: u8) -> Cartesian
+    ensures { λ r. ⌜ r ≡ candidate ieee ORIGINS k ⌝ }
+{
+    if k < 12 {
+        return face_center(k);
+    }
+    if k < 72 {
+        return vertex(k - 12);
+    }
+    midpoint(k - 72)
+}
