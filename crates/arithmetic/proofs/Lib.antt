@@ -9,5 +9,6 @@ pub mod Root
 pub mod Count
 pub mod Width
 pub mod Ieee754
+pub mod SqrtOrder
 pub mod Quick
 pub mod Bounds

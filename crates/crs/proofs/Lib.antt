@@ -2,3 +2,5 @@
 pub mod Search
 pub mod Stores
 pub mod Rows
+pub mod Squares
+pub mod Tolerance

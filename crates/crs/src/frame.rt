@@ -17,11 +17,14 @@ pub enum VertexAnswer {
     Refused(Refusal),
 }
 
-// Strictly nearer than 1e-5.
+// Strictly nearer than 1e-5: the square of the distance is below 1e-10, so that no root is taken.
 pub fn near(point: Cartesian, vertex: Cartesian) -> bool
     ensures { λ r. ⌜ r ≡ near ieee point vertex ⌝ }
 {
-    coordinates::vector::vec3_distance(point, vertex) < 1e-5
+    let dx = point.0.x - vertex.0.x;
+    let dy = point.0.y - vertex.0.y;
+    let dz = point.0.z - vertex.0.z;
+    dx * dx + dy * dy + dz * dz < 1e-10
 }
 
 // The first row of a frame that is near the point, or 8.
