@@ -1,4 +1,5 @@
 -- Laws behind the proofs of the functions.
+pub mod Angles
 pub mod Search
 pub mod Stores
 pub mod Rows

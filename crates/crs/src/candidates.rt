@@ -4,7 +4,6 @@ use coordinates::coordinate_transforms::to_cartesian;
 use coordinates::coords::Cartesian;
 use coordinates::spherical::Spherical;
 use coordinates::vec3::Vec3;
-use elementary::arctangent::atan;
 use origin::origin::get_origin;
 use origin::quaternion::transform_quat;
 use origin::utils::Origin;
@@ -15,9 +14,11 @@ ghost use Rattle.crs.specs.Candidates.{normalize, around, faceCenter, ve
 
 const PI: f64 = 3.141592653589793;
 
-const DISTANCE_TO_EDGE: f64 = 0.6180339887498949;
+// The angles from a face's centre to its vertices and midpoints: the arc tangents of 0.7639320225002102
+// and 0.6180339887498949, DISTANCE_TO_VERTEX and DISTANCE_TO_EDGE.
+const PHI_VERTEX: f64 = 0.6523581397843683;
 
-const DISTANCE_TO_VERTEX: f64 = 0.7639320225002102;
+const PHI_MIDPOINT: f64 = 0.5535743588970453;
 
 pub fn normalize(v: Cartesian) -> Cartesian
     ensures { λ r. ⌜ r ≡ normalize ieee v ⌝ }
@@ -55,13 +56,13 @@ fn face_center(k: u8) -> Cartesian
 fn vertex(k: u8) -> Cartesian
     ensures { λ r. ⌜ r ≡ vertex ieee ORIGINS k ⌝ }
 {
-    around(get_origin(k / 5), 2 * (k % 5) + 1, atan(DISTANCE_TO_VERTEX))
+    around(get_origin(k / 5), 2 * (k % 5) + 1, PHI_VERTEX)
 }
 
 fn midpoint(k: u8) -> Cartesian
     ensures { λ r. ⌜ r ≡ midpoint ieee ORIGINS k ⌝ }
 {
-    around(get_origin(k / 5), 2 * (k % 5), atan(DISTANCE_TO_EDGE))
+    around(get_origin(k / 5), 2 * (k % 5), PHI_MIDPOINT)
 }
 
 // In the Rust's order: 12 centres, five vertices of each face, five midpoints of each.
