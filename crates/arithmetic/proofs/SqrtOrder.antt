@@ -1,7 +1,7 @@
 -- The square root and the order. Of two values above zero the one with the smaller root is the smaller (`sqrt-order`). So a limit on the root is a limit on the number: where the root of t is b,
 -- and that of t's neighbour below is smaller, `lt (sqrt x) b` is `lt x t` (`sqrt-limit`). Assumes nothing.
-use mathlib.Core.Path.{_≡_, refl, sym, ap, _∙_, subst}
-use mathlib.Core.Logic.{_⊎_, inl, inr}
+use mathlib.Core.Path.{_≡_, refl, sym, _∙_, subst}
+use mathlib.Core.Logic.{inl, inr}
 use mathlib.Core.Bool.{Bool, true, false, not}
 use Prim.Native.Nat.{ℕ, zero, suc, _+_, _*_, _^_, _≤_, _<_}
 use native.Mathlib.Nat.{le-trans, lt-of-lt-of-le, lt-irrefl, mul-pos, mul-le-mul-right, mul-lt-mul-of-pos-right, lt-of-mul-lt-mul-right, zero-lt-suc}

@@ -1,7 +1,7 @@
 -- A distance is below 1e-5 exactly where its square, as the code computes it, is below the double 1e-10: the root of 1e-10 is 1e-5, and that of the double below it is smaller.
 -- Assumes nothing.
 use mathlib.Core.Path.{_≡_, refl, sym, ap, _∙_}
-use Prim.Native.Nat.{ℕ, _+_, _^_}
+use Prim.Native.Nat.{_+_, _^_}
 use lib.Dec.{T, lit<, lit≤}
 use lib.Ieee.{Float, binary64, add, sub, mul, lt, fits, ofBits}
 use lib.Ieee.Fits.{add-fits}

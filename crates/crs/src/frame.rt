@@ -18,7 +18,7 @@ pub enum VertexAnswer {
 }
 
 // Strictly nearer than 1e-5: the square of the distance is below 1e-10, so that no root is taken.
-pub fn near(point: Cartesian, vertex: Cartesian) -> bool
+fn near(point: Cartesian, vertex: Cartesian) -> bool
     ensures { λ r. ⌜ r ≡ near ieee point vertex ⌝ }
 {
     let dx = point.0.x - vertex.0.x;

@@ -1,9 +1,8 @@
 -- `frame::build_frame` meets its contract. The loop's invariant: the candidates that are left, added to the rows so far, give the frame, and nothing behind the rows has changed.
 -- Assumes nothing.
 use mathlib.Core.Path.{_≡_, refl, sym, _∙_}
-use Prim.Native.Nat.{_+_, _-_, _*_, _≤_, zero-le}
+use Prim.Native.Nat.{_-_, _*_, _≤_, zero-le}
 use native.Mathlib.Omega.{arith}
-use borrow.Author.Needs.{needs}
 use lib.ListN.{length, take, drop}
 use Rattle.arithmetic.specs.Arith.{ieee}
 use Rattle.origin.specs.Origins.{ORIGINS}
