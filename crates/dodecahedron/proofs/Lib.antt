@@ -2,3 +2,5 @@
 pub mod Lengths
 pub mod Overwrite
 pub mod Opening
+pub mod Runs
+pub mod Worked

@@ -2,3 +2,7 @@
 pub mod Sizes
 pub mod Set
 pub mod Open
+pub mod Slots
+pub mod Triangles
+pub mod Calls
+pub mod Fits

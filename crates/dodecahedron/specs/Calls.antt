@@ -1,0 +1,198 @@
+-- Document 01, "Calls and their numbers" and "Triangles and calls": forward, inverse, place and unplace: what each gives, and what it leaves in the stores, for all contents of the
+-- buffers, over a table of origins (projections/dodecahedron.rs). Definitions only.
+use Prim.Native.Nat.{ℕ, _+_, _*_}
+use mathlib.Core.Bool.{Bool, true, false, not, _&&_}
+use mathlib.Core.List.{List}
+use lib.Dec.{ltb}
+use lib.ListN.{length, getD}
+use lib.Ieee.{Float, nan}
+use Rattle.answer.specs.Given.{Given, answered, refused, passed, refuseIf, andThen, bind}
+use Rattle.answer.specs.Answer.{numberOf}
+use Rattle.answer.specs.Number.{isFinite, checkNumber}
+use Rattle.arithmetic.specs.Arith.{Arith}
+use Rattle.elementary.specs.Constants.{4·0}
+use Rattle.coordinates.specs.CoordinateTransforms.{radians, toPolar, toSpherical, toCartesian, fromLonLat, toLonLat}
+use Rattle.coordinates.specs.Conversions.{checkLonLat, checkSpherical, finiteSpherical, finiteLonLat}
+use Rattle.coordinates.specs.Gnomonic.{gnomonicForward}
+use Rattle.coordinates.specs.Vector.{cartesian, cross}
+use Rattle.coordinates.specs.declared.coords.Cartesian.{Cartesian}
+use Rattle.coordinates.specs.declared.coords.Face.{Face}
+use Rattle.coordinates.specs.declared.coords.FaceTriangle.{FaceTriangle}
+use Rattle.coordinates.specs.declared.lonlat.LonLat.{LonLat}
+use Rattle.coordinates.specs.declared.polar.Polar.{Polar}
+use Rattle.coordinates.specs.declared.spherical.Spherical.{Spherical}
+use Rattle.origin.specs.Origins.{originAt}
+use Rattle.origin.specs.Nearest.{nearestOrigin}
+use Rattle.origin.specs.Quaternion.{quatConjugate, transformQuat}
+use Rattle.origin.specs.declared.utils.Origin.{Origin}
+use Rattle.tiling.specs.FaceTriangles.{faceTriangle}
+use Rattle.tiling.specs.Index.{triangleIndex, shouldReflect}
+use Rattle.equal_area.specs.EqualArea.{computeConstants, forward, inverse}
+use Rattle.equal_area.specs.declared.equal_area.TriangleConstants.{TriangleConstants}
+use Rattle.dodecahedron.specs.Sizes.{FACE-WIDTH, SPHERE-WIDTH}
+use Rattle.dodecahedron.specs.Set.{checkSet}
+use Rattle.dodecahedron.specs.Slots.{keep, faceRun, sphereRun}
+use Rattle.dodecahedron.specs.Triangles.{faceSlot, sourceSlot, sphereSlot, faceTaken, sphereTaken}
+use Rattle.dodecahedron.specs.declared.used.Used.{Used}
+use Rattle.dodecahedron.specs.declared.used.UsedAnswer.{UsedAnswer}
+use Rattle.dodecahedron.specs.declared.used.UsedAnswer.the-variants as used-answer
+use Rattle.dodecahedron.specs.declared.used.FaceWork.{FaceWork}
+use Rattle.dodecahedron.specs.declared.used.FaceWork.the-variants as face-work
+use Rattle.dodecahedron.specs.declared.used.SphericalWork.{SphericalWork}
+use Rattle.dodecahedron.specs.declared.used.SphericalWork.the-variants as spherical-work
+use Rattle.dodecahedron.specs.declared.used.Place.{Place}
+use Rattle.dodecahedron.specs.declared.used.FaceAnswer.{FaceAnswer}
+use Rattle.dodecahedron.specs.declared.used.FaceAnswer.the-variants as face-answer
+use Rattle.dodecahedron.specs.declared.used.PlaceAnswer.{PlaceAnswer}
+use Rattle.dodecahedron.specs.declared.used.PlaceAnswer.the-variants as place-answer
+
+-- an answer's value, or the number of its refusal
+abbrev pub givenFace : FaceAnswer → Given Face
+givenFace (face-answer.Answered p) = answered p
+givenFace (face-answer.Refused n) = refused (numberOf n)
+
+abbrev pub givenPlace : PlaceAnswer → Given Place
+givenPlace (place-answer.Answered p) = answered p
+givenPlace (place-answer.Refused n) = refused (numberOf n)
+
+-- what an answered call answers, and the slots that it uses with the sphere triangle that it took
+pub record Work (X : Type 0) : Type 0 where
+  pub answer : X
+  pub used : Used
+
+abbrev pub givenUsed : UsedAnswer → Given Used
+givenUsed (used-answer.Answered u) = answered u
+givenUsed (used-answer.Refused n) = refused (numberOf n)
+
+abbrev pub givenFaceWork : FaceWork → Given (Work Face)
+givenFaceWork (face-work.Done w) = answered (record { answer = w .answer; used = w .used })
+givenFaceWork (face-work.Refused n) = refused (numberOf n)
+
+abbrev pub givenSphericalWork : SphericalWork → Given (Work Spherical)
+givenSphericalWork (spherical-work.Done w) = answered (record { answer = w .answer; used = w .used })
+givenSphericalWork (spherical-work.Refused n) = refused (numberOf n)
+
+-- ---- what a call gives, and what the stores hold afterwards
+
+abbrev pub answerOf : {X : Type 0} → Given (Work X) → Given X
+answerOf (refused n) = refused n
+answerOf (answered w) = answered (w .answer)
+
+abbrev pub usedOf : {X : Type 0} → Given (Work X) → Given Used
+usedOf (refused n) = refused n
+usedOf (answered w) = answered (w .used)
+
+module _ (A : Arith) where
+  -- "An unreflected call uses face slot i and its sphere slot; a reflected one uses 10+i, 20+i and its sphere slot." "Empty used slots are written on success": a face slot with
+  -- the triangle defined for it
+  unfoldable pub keepFace : List Float → ℕ → List Float
+  keepFace store k = keep FACE-WIDTH store k (faceRun (faceTriangle A k))
+
+  abbrev pub keepFaces : List Float → ℕ → Bool → List Float
+  keepFaces store i false = keepFace store i
+  keepFaces store i true = keepFace (keepFace store (faceSlot i true)) (sourceSlot i true)
+
+  -- "A refusal leaves every lent buffer bit for bit unchanged."
+  abbrev pub faceAfter : List Float → Given Used → List Float
+  faceAfter store (refused n) = store
+  faceAfter store (answered u) = keepFaces store (u .index) (u .reflected)
+
+-- a sphere slot with the triangle that the call took
+unfoldable pub keepSphere : List Float → Used → List Float
+keepSphere store u = keep SPHERE-WIDTH store (sphereSlot (u .origin) (u .index) (u .reflected)) (sphereRun (u .triangle))
+
+abbrev pub sphereAfter : List Float → Given Used → List Float
+sphereAfter store (refused n) = store
+sphereAfter store (answered u) = keepSphere store u
+
+-- ---- the checks: "tried in table order, but each number is tried for 5 and then 6 before the next one"
+
+-- 9, and 5 and 6 of "face x and y ±4"
+unfoldable pub finiteFace : Face → Given Face
+finiteFace p = refuseIf (not (isFinite (p .0 .x) && isFinite (p .0 .y))) 9 (answered p)
+
+unfoldable pub checkFace : Face → Given (Unit {0})
+checkFace p = andThen (checkNumber (p .0 .x) 4·0) (checkNumber (p .0 .y) 4·0)
+
+-- 1, 2, 3
+abbrev pub checkBuffers : List Float → List Float → List Float → Given (Unit {0})
+checkBuffers frame face sphere = checkSet (length frame) (length face) (length sphere)
+
+-- an origin id above 11 gives 4
+unfoldable pub checkOrigin : ℕ → Given (Unit {0})
+checkOrigin o = refuseIf (ltb 11 o) 4 passed
+
+-- a call: its checks, what it works out, and its final answer, for which 9 is tried; the slots that it uses go along
+unfoldable pub finishWith : {X Y : Type 0} → (X → Given Y) → Work X → Given (Work Y)
+finishWith f w = bind (f (w .answer)) λ y. answered (record { answer = y; used = w .used })
+
+unfoldable pub call : {X Y : Type 0} → Given (Unit {0}) → Given (Work X) → (X → Given Y) → Given (Work Y)
+call check core f = andThen check (bind core (finishWith f))
+
+-- row k of a frame
+abbrev pub rowAt : List Float → ℕ → Cartesian
+rowAt frame k = cartesian (getD frame (k * 3) nan) (getD frame (k * 3 + 1) nan) (getD frame (k * 3 + 2) nan)
+
+-- "Constants come from frame rows 0, 32, 12 at each call."
+unfoldable pub frameConstants : Arith → List Float → TriangleConstants
+frameConstants A frame = computeConstants A (record { a = rowAt frame 0; b = rowAt frame 32; c = rowAt frame 12 })
+
+-- the polar point of a position about an origin's axis: forward_cartesian up to rotated_polar
+module _ (A : Arith) where
+  open Arith A using (_⊖_)
+
+  infixl 60 _⊖_
+  unfoldable pub polarAbout : Origin → Cartesian → Polar
+  polarAbout o v =
+      let polar = gnomonicForward A (toSpherical A (transformQuat A v (quatConjugate (o .quat)))) in
+      record { rho = polar .rho; gamma = radians (polar .gamma .0 ⊖ o .angle .0) }
+
+  -- the face triangle of the point
+  unfoldable pub faceFor : List Float → Used → FaceTriangle
+  faceFor face u = faceTaken A face (faceSlot (u .index) (u .reflected))
+
+module _ (A : Arith) (table frame face sphere : List Float) where
+  -- ---- what forward and inverse work out, without their checks
+
+  -- the sphere triangle taken for a polar point, with the slots used; 8 where a vertex has no row
+  unfoldable pub usedFor : ℕ → Polar → Given Used
+  usedFor o polar =
+      let i = triangleIndex A (polar .gamma) in
+      let r = shouldReflect A polar in
+      bind (sphereTaken A frame face sphere (originAt table o) (sphereSlot o i r) (sourceSlot i r)) λ t.
+      answered (record { origin = o; index = i; reflected = r; triangle = t })
+
+  -- DodecahedronProjection::forward
+  unfoldable pub forwardCore : Spherical → ℕ → Given (Work Face)
+  forwardCore s o =
+      let v = toCartesian A s in
+      bind (usedFor o (polarAbout A (originAt table o) v)) λ u.
+      answered (record { answer = forward A (frameConstants A frame) v (u .triangle) (cross A (u .triangle .b) (u .triangle .c)) (faceFor A face u); used = u })
+
+  -- DodecahedronProjection::inverse
+  unfoldable pub inverseCore : Face → ℕ → Given (Work Spherical)
+  inverseCore f o =
+      bind (usedFor o (toPolar A f)) λ u.
+      answered (record { answer = toSpherical A (inverse A (frameConstants A frame) f (faceFor A face u) (u .triangle)); used = u })
+
+  -- ---- the calls
+
+  -- 1, 2, 3, 4, theta, phi
+  unfoldable pub forwardGiven : Spherical → ℕ → Given (Work Face)
+  forwardGiven s o = call (andThen (andThen (checkBuffers frame face sphere) (checkOrigin o)) (checkSpherical s)) (forwardCore s o) finiteFace
+
+  -- 1, 2, 3, 4, x, y
+  unfoldable pub inverseGiven : Face → ℕ → Given (Work Spherical)
+  inverseGiven f o = call (andThen (andThen (checkBuffers frame face sphere) (checkOrigin o)) (checkFace f)) (inverseCore f o) finiteSpherical
+
+  -- "Place is from_lon_lat, find_nearest_origin, forward": 1, 2, 3, longitude, latitude
+  unfoldable pub placeGiven : LonLat → Given (Work Place)
+  placeGiven p =
+      let s = fromLonLat A p in
+      let o = nearestOrigin A table s in
+      call (andThen (checkBuffers frame face sphere) (checkLonLat p)) (forwardCore s o) (λ f. bind (finiteFace f) λ g. answered (record { origin = o; face = g }))
+
+  -- "unplace is inverse, to_lon_lat": 1, 2, 3, 4, x, y
+  unfoldable pub unplaceGiven : Face → ℕ → Given (Work LonLat)
+  unplaceGiven f o =
+      call (andThen (andThen (checkBuffers frame face sphere) (checkOrigin o)) (checkFace f)) (inverseCore f o) (λ s. finiteLonLat (toLonLat A s))

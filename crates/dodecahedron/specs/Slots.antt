@@ -1,0 +1,51 @@
+-- Document 01, "Calls and their numbers": a store is slots of one width; a slot is a mark, 1.0 where it is filled, and a run of coordinates, "vertices a, b, c in turn". Definitions only.
+use Prim.Native.Nat.{ℕ, _+_, _*_}
+use mathlib.Core.Bool.{Bool, cond}
+use mathlib.Core.List.{List, [], _∷_, _++_}
+use lib.ListN.{length, getD, take, drop}
+use lib.Ieee.{Float, nan, eq}
+use Rattle.elementary.specs.Constants.{1·0}
+use Rattle.coordinates.specs.CoordinateTransforms.{face}
+use Rattle.coordinates.specs.Vector.{x, y, z, cartesian}
+use Rattle.coordinates.specs.declared.coords.FaceTriangle.{FaceTriangle}
+use Rattle.coordinates.specs.declared.coords.SphericalTriangle.{SphericalTriangle}
+
+-- n numbers from place i on
+abbrev pub run : {A : Type 0} → List A → ℕ → ℕ → List A
+run xs i n = take n (drop i xs)
+
+-- xs with ys in the place of as many from place i on
+unfoldable pub put : {A : Type 0} → List A → ℕ → List A → List A
+put xs i ys = take i xs ++ (ys ++ drop (length ys) (drop i xs))
+
+-- "1.0 is filled, anything else is empty": the mark at place i
+unfoldable pub filled : List Float → ℕ → Bool
+filled xs i = eq (getD xs i nan) 1·0
+
+-- slot k of the width w gets its mark and the coordinates ys where it is empty; a filled one stays as it stands
+unfoldable pub keep : ℕ → List Float → ℕ → List Float → List Float
+keep w xs k ys = cond (filled xs (k * w)) xs (put xs (k * w) (1·0 ∷ ys))
+
+-- ---- a triangle's coordinates as a run, and the triangle that a run stands for
+
+abbrev pub faceRun : FaceTriangle → List Float
+faceRun t = t .a .0 .x ∷ t .a .0 .y ∷ t .b .0 .x ∷ t .b .0 .y ∷ t .c .0 .x ∷ t .c .0 .y ∷ []
+
+abbrev pub faceIn : List Float → FaceTriangle
+faceIn r =
+    record {
+      a = face (getD r 0 nan) (getD r 1 nan);
+      b = face (getD r 2 nan) (getD r 3 nan);
+      c = face (getD r 4 nan) (getD r 5 nan);
+    }
+
+abbrev pub sphereRun : SphericalTriangle → List Float
+sphereRun t = x (t .a) ∷ y (t .a) ∷ z (t .a) ∷ x (t .b) ∷ y (t .b) ∷ z (t .b) ∷ x (t .c) ∷ y (t .c) ∷ z (t .c) ∷ []
+
+abbrev pub sphereIn : List Float → SphericalTriangle
+sphereIn r =
+    record {
+      a = cartesian (getD r 0 nan) (getD r 1 nan) (getD r 2 nan);
+      b = cartesian (getD r 3 nan) (getD r 4 nan) (getD r 5 nan);
+      c = cartesian (getD r 6 nan) (getD r 7 nan) (getD r 8 nan);
+    }
