@@ -12,3 +12,4 @@ pub mod Ieee754
 pub mod SqrtOrder
 pub mod Quick
 pub mod Bounds
+pub mod Order

@@ -4,3 +4,4 @@ pub mod Generated
 pub mod Least
 pub mod AxisSines
 pub mod Shared
+pub mod LowestNearest

@@ -4,3 +4,4 @@ pub mod Constants
 pub mod Quaternion
 pub mod Origins
 pub mod Nearest
+pub mod LowestNearest
