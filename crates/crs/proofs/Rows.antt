@@ -8,7 +8,8 @@ use lib.Ieee.{Float}
 use Rattle.answer.specs.Given.{answered, refused}
 use Rattle.arithmetic.specs.Arith.{Arith}
 use Rattle.coordinates.specs.declared.coords.Cartesian.{Cartesian}
-use Rattle.crs.specs.Candidates.{normalize, candidate}
+use Rattle.coordinates.specs.Vector.{normalize}
+use Rattle.crs.specs.Candidates.{candidate}
 use Rattle.crs.specs.Frame.{row, findVertex, addRow, addRows}
 
 module _ (A : Arith) where

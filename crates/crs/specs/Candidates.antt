@@ -1,13 +1,12 @@
--- projections/crs.rs: `normalize`, and the points that `add_face_centers`, `add_vertices` and `add_midpoints` add, over a table of twelve origins. Definitions only.
+-- projections/crs.rs: the points that `add_face_centers`, `add_vertices` and `add_midpoints` add, over a table of twelve origins. Definitions only.
 use Prim.Native.Nat.{ℕ, _+_, _-_, _*_, _/_, _%_}
 use mathlib.Core.Bool.{true, false}
 use mathlib.Core.List.{List}
 use lib.Dec.{ltb}
-use lib.Ieee.{Float, eq}
+use lib.Ieee.{Float}
 use Rattle.arithmetic.specs.Arith.{Arith}
-use Rattle.elementary.specs.Constants.{0·0, PI}
+use Rattle.elementary.specs.Constants.{PI}
 use Rattle.elementary.specs.Arctangent.{atan}
-use Rattle.coordinates.specs.Vector.{x, y, z, cartesian, length}
 use Rattle.coordinates.specs.CoordinateTransforms.{radians, toCartesian}
 use Rattle.coordinates.specs.declared.coords.Cartesian.{Cartesian}
 use Rattle.origin.specs.Constants.{5·0, DISTANCE-TO-EDGE, DISTANCE-TO-VERTEX}
@@ -20,12 +19,6 @@ module _ (A : Arith) where
 
   infixl 60 _⊕_
   infixl 70 _⊗_ _⊘_
-  -- normalize: v itself where its length is zero
-  unfoldable pub normalize : Cartesian → Cartesian
-  normalize v =
-      let l = length A v in
-      elim (eq l 0·0) [ true ↦ v | false ↦ cartesian (x v ⊘ l) (y v ⊘ l) (z v ⊘ l) ]
-
   -- at theta = m as f64 * PI / 5.0 + origin.angle and the angle phi from the pole, turned by the origin's quaternion
   unfoldable pub around : Origin → ℕ → Float → Cartesian
   around o m phi = transformQuat A (toCartesian A (record { theta = radians (whole false m ⊗ PI ⊘ 5·0 ⊕ o .angle .0); phi = radians phi })) (o .quat)

@@ -6,9 +6,9 @@ use lib.Ieee.{Float, binary64, lt, ofBits}
 use Rattle.answer.specs.Given.{Given, answered, refused}
 use Rattle.answer.specs.Answer.{numberOf}
 use Rattle.arithmetic.specs.Arith.{Arith}
-use Rattle.coordinates.specs.Vector.{x, y, z, cartesian, vec3Distance}
+use Rattle.coordinates.specs.Vector.{x, y, z, cartesian, vec3Distance, normalize}
 use Rattle.coordinates.specs.declared.coords.Cartesian.{Cartesian}
-use Rattle.crs.specs.Candidates.{normalize, candidate}
+use Rattle.crs.specs.Candidates.{candidate}
 use Rattle.crs.specs.declared.frame.VertexAnswer.{VertexAnswer}
 use Rattle.crs.specs.declared.frame.VertexAnswer.the-variants as vertex
 

@@ -3,14 +3,13 @@ use coordinates::base::Radians;
 use coordinates::coordinate_transforms::to_cartesian;
 use coordinates::coords::Cartesian;
 use coordinates::spherical::Spherical;
-use coordinates::vec3::Vec3;
 use origin::origin::get_origin;
 use origin::quaternion::transform_quat;
 use origin::utils::Origin;
 ghost use mathlib.Core.Path.{_≡_};
 ghost use Rattle.arithmetic.specs.Arith.{ieee};
 ghost use Rattle.origin.specs.Origins.{ORIGINS};
-ghost use Rattle.crs.specs.Candidates.{normalize, around, faceCenter, vertex, midpoint, candidate};
+ghost use Rattle.crs.specs.Candidates.{around, faceCenter, vertex, midpoint, candidate};
 
 const PI: f64 = 3.141592653589793;
 
@@ -19,20 +18,6 @@ const PI: f64 = 3.141592653589793;
 const PHI_VERTEX: f64 = 0.6523581397843683;
 
 const PHI_MIDPOINT: f64 = 0.5535743588970453;
-
-pub fn normalize(v: Cartesian) -> Cartesian
-    ensures { λ r. ⌜ r ≡ normalize ieee v ⌝ }
-{
-    let length = coordinates::vector::length(v);
-    if length == 0.0 {
-        return v;
-    }
-    Cartesian(Vec3 {
-        x: v.0.x / length,
-        y: v.0.y / length,
-        z: v.0.z / length,
-    })
-}
 
 // m tenths of a turn from the origin's angle, and phi from its axis.
 fn around(origin: Origin, m: u8, phi: f64) -> Cartesian

@@ -1,6 +1,5 @@
 // The frame's rows, three numbers each, and the lookup of a vertex.
 use crate::candidates::candidate;
-use crate::candidates::normalize;
 use answer::Refusal;
 use coordinates::coords::Cartesian;
 use coordinates::vec3::Vec3;
@@ -54,7 +53,7 @@ fn add(rows: &mut [f64], used: usize, point: Cartesian) -> usize
     ensures { λ r. ⌜ drop r (now (rows .exit)) ≡ drop r (now (rows .entry)) ⌝ }
     ensures { λ r. ⌜ (used ≤ r) × (r ≤ used + 3) ⌝ }
 {
-    let row = normalize(point);
+    let row = coordinates::vector::normalize(point);
     let found = get_vertex(&rows[..used], row);
     if let VertexAnswer::Answered(_) = found {
         return used;
