@@ -1,0 +1,42 @@
+// Before anything is timed: the library's answers on the inputs are the stepped Rust's, bit for bit.
+
+use crate::forms::{Form, Ours, Stepped};
+use a5_stepped::coordinate_systems::Cartesian;
+use a5_stepped::projections::crs::CRS;
+
+fn same(what: &str, ours: &[f64], rust: &[f64]) {
+    let bits = |list: &[f64]| list.iter().map(|x| x.to_bits()).collect::<Vec<u64>>();
+    assert_eq!(bits(ours), bits(rust), "{what}: {ours:?}, the Rust {rust:?}");
+}
+
+// The Rust keeps its rows to itself. It hands back the row near a point, and rows 0, 32 and 12 as a triangle: so each of
+// the 62 rows is one of the Rust's 62, and those three stand in their places.
+fn frames(ours: &mut Ours) {
+    ours.open();
+    let mut crs = CRS::new().expect("the Rust has 62 rows");
+    let rows: Vec<[f64; 3]> = ours.frame.chunks(3).map(|r| [r[0], r[1], r[2]]).collect();
+    for row in &rows {
+        let point = Cartesian::new(row[0], row[1], row[2]);
+        let vertex = crs.get_vertex(point).expect("the Rust has the row");
+        same("a row of the frame", row, &[vertex.x(), vertex.y(), vertex.z()]);
+    }
+    let triangle = crs.get_canonical_triangle();
+    for (k, vertex) in [(0, triangle.a), (32, triangle.b), (12, triangle.c)] {
+        same("a row in its place", &rows[k], &[vertex.x(), vertex.y(), vertex.z()]);
+    }
+}
+
+pub fn check(degrees: &[[f64; 2]], radians: &[[f64; 2]]) {
+    let (mut ours, mut rust) = (Ours::new(), Stepped);
+    frames(&mut ours);
+    for &[longitude, latitude] in degrees {
+        let to = ours.from_lon_lat(longitude, latitude);
+        same("from_lon_lat", &to, &rust.from_lon_lat(longitude, latitude));
+    }
+    for &[theta, phi] in radians {
+        let id = ours.nearest(theta, phi);
+        assert_eq!(id, rust.nearest(theta, phi), "nearest of {theta}, {phi}");
+        let to = ours.to_lon_lat(theta, phi);
+        same("to_lon_lat", &to, &rust.to_lon_lat(theta, phi));
+    }
+}

@@ -1,0 +1,98 @@
+// Times the proved library against the given Rust on the same points, and writes a table.
+
+mod agree;
+mod forms;
+#[allow(dead_code)]
+#[path = "../../oracle/common/generator.rs"]
+mod generator;
+
+use forms::{Form, Ours, Plain, Stepped};
+use generator::Generator;
+use std::hint::black_box;
+use std::time::Instant;
+
+const POINTS: usize = 500;
+const OPENS: usize = 2;
+const RUNS: usize = 301;
+
+// Longitude and latitude of points that lie evenly over the sphere.
+fn points() -> Vec<[f64; 2]> {
+    let mut generator = Generator::new(1);
+    let point = |_| {
+        let longitude = generator.between(-180.0, 180.0);
+        let latitude = generator.between(-1.0, 1.0).asin().to_degrees();
+        [longitude, latitude]
+    };
+    (0..POINTS).map(point).collect()
+}
+
+// Nanoseconds for each of so many calls.
+fn time(calls: usize, run: impl FnOnce()) -> f64 {
+    let start = Instant::now();
+    run();
+    start.elapsed().as_nanos() as f64 / calls as f64
+}
+
+// One run of each call: open, nearest, from_lon_lat, to_lon_lat.
+fn run(form: &mut impl Form, degrees: &[[f64; 2]], radians: &[[f64; 2]]) -> [f64; 4] {
+    let open = time(OPENS, || (0..OPENS).for_each(|_| form.open()));
+    let nearest = time(POINTS, || {
+        for p in black_box(radians) {
+            black_box(form.nearest(p[0], p[1]));
+        }
+    });
+    let from_lon_lat = time(POINTS, || {
+        for p in black_box(degrees) {
+            black_box(form.from_lon_lat(p[0], p[1]));
+        }
+    });
+    let to_lon_lat = time(POINTS, || {
+        for p in black_box(radians) {
+            black_box(form.to_lon_lat(p[0], p[1]));
+        }
+    });
+    [open, nearest, from_lon_lat, to_lon_lat]
+}
+
+fn median(mut times: Vec<f64>) -> f64 {
+    times.sort_by(f64::total_cmp);
+    times[times.len() / 2]
+}
+
+// For each form, the runs of each call. The forms take turns, and each round begins with another.
+fn interleaved(degrees: &[[f64; 2]], radians: &[[f64; 2]]) -> [Vec<[f64; 4]>; 3] {
+    let mut times = [const { Vec::new() }; 3];
+    let (mut ours, mut stepped, mut plain) = (Ours::new(), Stepped, Plain);
+    for turn in 0..3 * RUNS {
+        let form = (turn + turn / 3) % 3;
+        times[form].push(match form {
+            0 => run(&mut ours, degrees, radians),
+            1 => run(&mut stepped, degrees, radians),
+            _ => run(&mut plain, degrees, radians),
+        });
+    }
+    times
+}
+
+fn main() {
+    let degrees = points();
+    let mut library = Ours::new();
+    let place = |p: &[f64; 2]| library.from_lon_lat(p[0], p[1]);
+    let radians: Vec<[f64; 2]> = degrees.iter().map(place).collect();
+    agree::check(&degrees, &radians);
+    let times = interleaved(&degrees, &radians);
+    println!("ns a call: medians of {RUNS} interleaved runs, {POINTS} points each");
+    println!("call             ours  stepped    plain  ours/stepped  ours/plain");
+    for (call, name) in ["open", "nearest", "from_lon_lat", "to_lon_lat"]
+        .iter()
+        .enumerate()
+    {
+        let [ours, stepped, plain] =
+            [0, 1, 2].map(|form| median(times[form].iter().map(|run| run[call]).collect()));
+        println!(
+            "{name:<12} {ours:>8.0} {stepped:>8.0} {plain:>8.0} {:>13.2} {:>11.2}",
+            ours / stepped,
+            ours / plain
+        );
+    }
+}

@@ -1,0 +1,17 @@
+-- `a5_nearest` meets its contract. Assumes nothing.
+use mathlib.Core.Path.{refl, sym, ap, _∙_}
+use borrow.Author.Needs.{needs}
+use Rattle.origin.specs.Nearest.{givenOrigin}
+use Rattle.exports.proofs.a5_nearest.Statement.{statement}
+use Rattle.exports.proofs.a5_nearest.Tie as tie
+
+returns : tie.Need-returns
+returns c =
+    rw (sym (c .before .before .before .nearest .ensures) ∙ ap givenOrigin (c .before .given .given .1)) (refl, refl)
+
+returns-2 : tie.Need-returns-2
+returns-2 c =
+    rw (sym (c .before .before .before .before .nearest .ensures) ∙ ap givenOrigin (c .before .before .given2 .given .1)) (c .number .ensures, refl)
+
+pub a5-nearest-spec : {M : Type 1} → statement M
+a5-nearest-spec = tie.close (tie.spec (λ c κs. tt) (λ c. search needs) (λ c. search needs) (λ c κs. tt) returns returns-2)

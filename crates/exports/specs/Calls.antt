@@ -1,0 +1,32 @@
+-- What a C function returns, and what it leaves in the numbers lent for its answer, by what its call gives. Definitions only.
+use Prim.Native.Nat.{ℕ}
+use mathlib.Core.List.{List, [], _∷_}
+use lib.Ieee.{Float}
+use Rattle.answer.specs.Given.{Given, answered, refused}
+use Rattle.coordinates.specs.declared.lonlat.LonLat.{LonLat}
+use Rattle.coordinates.specs.declared.spherical.Spherical.{Spherical}
+
+-- 0 for an answer, and the number of a refusal
+abbrev pub status : {A : Type 0} → Given A → ℕ
+status (answered a) = 0
+status (refused n) = n
+
+-- ---- arguments
+abbrev pub lonLat : Float → Float → LonLat
+lonLat longitude latitude = record { longitude = record { 0 = longitude }; latitude = record { 0 = latitude } }
+
+abbrev pub spherical : Float → Float → Spherical
+spherical theta phi = record { theta = record { 0 = theta }; phi = record { 0 = phi } }
+
+-- ---- what is lent for an answer: a refusal leaves it
+abbrev pub idAfter : Given ℕ → ℕ → ℕ
+idAfter (answered id) old = id
+idAfter (refused n) old = old
+
+abbrev pub sphericalAfter : Given Spherical → List Float → List Float
+sphericalAfter (answered s) old = s .theta .0 ∷ s .phi .0 ∷ []
+sphericalAfter (refused n) old = old
+
+abbrev pub lonLatAfter : Given LonLat → List Float → List Float
+lonLatAfter (answered p) old = p .longitude .0 ∷ p .latitude .0 ∷ []
+lonLatAfter (refused n) old = old

@@ -1,0 +1,94 @@
+// The calls as C functions, for programs in other languages. Each returns 0 where the call answered,
+// and otherwise the number that document 01's table gives its refusal. What is lent for an answer is
+// written where the call answered, and left as it was where it refused.
+//
+// A slice is two arguments in C, a pointer and then how many numbers there are. An answer of two
+// numbers is lent as a reference to an array of two, in C a pointer: it has no length to be wrong.
+use coordinates::base::Degrees;
+use coordinates::base::Radians;
+use coordinates::conversions::LonLatAnswer;
+use coordinates::conversions::SphericalAnswer;
+use coordinates::lonlat::LonLat;
+use coordinates::spherical::Spherical;
+use dodecahedron::open::OpenAnswer;
+use origin::origin::OriginAnswer;
+ghost use mathlib.Core.Path.{_≡_};
+ghost use Rattle.arithmetic.specs.Arith.{ieee};
+ghost use Rattle.coordinates.specs.Conversions.{fromLonLatGiven, toLonLatGiven};
+ghost use Rattle.origin.specs.Origins.{ORIGINS};
+ghost use Rattle.origin.specs.Nearest.{nearestGiven};
+ghost use Rattle.dodecahedron.specs.Sizes.{FACE-STORE, SPHERE-STORE};
+ghost use Rattle.dodecahedron.specs.Open.{openGiven, frameAfter, clearedAfter};
+ghost use Rattle.exports.specs.Calls.{status, idAfter, sphericalAfter, lonLatAfter, lonLat, spherical};
+
+// Open: writes the frame and fills both stores with 0.0.
+#[no_mangle]
+pub extern "C" fn a5_open(frame: &mut [f64], face: &mut [f64], sphere: &mut [f64]) -> u8
+    ensures { λ r. ⌜ r ≡ status (openGiven ieee ORIGINS (now (frame .entry)) (now (face .entry)) (now (sphere .entry))) ⌝ }
+    ensures { λ _. ⌜ now (frame .exit) ≡ frameAfter ieee ORIGINS (openGiven ieee ORIGINS (now (frame .entry)) (now (face .entry)) (now (sphere .entry))) (now (frame .entry)) ⌝ }
+    ensures { λ _. ⌜ now (face .exit) ≡ clearedAfter (openGiven ieee ORIGINS (now (frame .entry)) (now (face .entry)) (now (sphere .entry))) FACE-STORE (now (face .entry)) ⌝ }
+    ensures { λ _. ⌜ now (sphere .exit) ≡ clearedAfter (openGiven ieee ORIGINS (now (frame .entry)) (now (face .entry)) (now (sphere .entry))) SPHERE-STORE (now (sphere .entry)) ⌝ }
+{
+    let given = dodecahedron::open::open(frame, face, sphere);
+    match given {
+        OpenAnswer::Opened => 0,
+        OpenAnswer::Refused(n) => answer::number(n),
+    }
+}
+
+// Nearest: the number of the origin nearest to a position, in radians, goes to id.
+#[no_mangle]
+pub extern "C" fn a5_nearest(theta: f64, phi: f64, id: &mut u8) -> u8
+    ensures { λ r. ⌜ r ≡ status (nearestGiven ieee ORIGINS (spherical theta phi)) ⌝ }
+    ensures { λ _. ⌜ now (id .exit) ≡ idAfter (nearestGiven ieee ORIGINS (spherical theta phi)) (now (id .entry)) ⌝ }
+{
+    let given = origin::origin::nearest(Spherical {
+        theta: Radians(theta),
+        phi: Radians(phi),
+    });
+    match given {
+        OriginAnswer::Answered(nearest) => {
+            *id = nearest;
+            0
+        }
+        OriginAnswer::Refused(n) => answer::number(n),
+    }
+}
+
+// From longitude and latitude, in degrees, to theta and phi, in radians.
+#[no_mangle]
+pub extern "C" fn a5_from_lon_lat(longitude: f64, latitude: f64, to: &mut [f64; 2]) -> u8
+    ensures { λ r. ⌜ r ≡ status (fromLonLatGiven ieee (lonLat longitude latitude)) ⌝ }
+    ensures { λ _. ⌜ now (to .exit) ≡ sphericalAfter (fromLonLatGiven ieee (lonLat longitude latitude)) (now (to .entry)) ⌝ }
+{
+    let given = coordinates::conversions::from_lon_lat(LonLat {
+        longitude: Degrees(longitude),
+        latitude: Degrees(latitude),
+    });
+    match given {
+        SphericalAnswer::Answered(s) => {
+            *to = [s.theta.0, s.phi.0];
+            0
+        }
+        SphericalAnswer::Refused(n) => answer::number(n),
+    }
+}
+
+// From theta and phi, in radians, to longitude and latitude, in degrees.
+#[no_mangle]
+pub extern "C" fn a5_to_lon_lat(theta: f64, phi: f64, to: &mut [f64; 2]) -> u8
+    ensures { λ r. ⌜ r ≡ status (toLonLatGiven ieee (spherical theta phi)) ⌝ }
+    ensures { λ _. ⌜ now (to .exit) ≡ lonLatAfter (toLonLatGiven ieee (spherical theta phi)) (now (to .entry)) ⌝ }
+{
+    let given = coordinates::conversions::to_lon_lat(Spherical {
+        theta: Radians(theta),
+        phi: Radians(phi),
+    });
+    match given {
+        LonLatAnswer::Answered(l) => {
+            *to = [l.longitude.0, l.latitude.0];
+            0
+        }
+        LonLatAnswer::Refused(n) => answer::number(n),
+    }
+}
