@@ -6,7 +6,11 @@ use a5_stepped::projections::crs::CRS;
 
 fn same(what: &str, ours: &[f64], rust: &[f64]) {
     let bits = |list: &[f64]| list.iter().map(|x| x.to_bits()).collect::<Vec<u64>>();
-    assert_eq!(bits(ours), bits(rust), "{what}: {ours:?}, the Rust {rust:?}");
+    assert_eq!(
+        bits(ours),
+        bits(rust),
+        "{what}: {ours:?}, the Rust {rust:?}"
+    );
 }
 
 // The Rust keeps its rows to itself. It hands back the row near a point, and rows 0, 32 and 12 as a triangle: so each of
@@ -18,11 +22,19 @@ fn frames(ours: &mut Ours) {
     for row in &rows {
         let point = Cartesian::new(row[0], row[1], row[2]);
         let vertex = crs.get_vertex(point).expect("the Rust has the row");
-        same("a row of the frame", row, &[vertex.x(), vertex.y(), vertex.z()]);
+        same(
+            "a row of the frame",
+            row,
+            &[vertex.x(), vertex.y(), vertex.z()],
+        );
     }
     let triangle = crs.get_canonical_triangle();
     for (k, vertex) in [(0, triangle.a), (32, triangle.b), (12, triangle.c)] {
-        same("a row in its place", &rows[k], &[vertex.x(), vertex.y(), vertex.z()]);
+        same(
+            "a row in its place",
+            &rows[k],
+            &[vertex.x(), vertex.y(), vertex.z()],
+        );
     }
 }
 

@@ -11,9 +11,10 @@ use generator::Generator;
 use std::hint::black_box;
 use std::time::Instant;
 
-const POINTS: usize = 500;
-const OPENS: usize = 2;
-const RUNS: usize = 301;
+// A run is short, so that on a busy machine most are not interrupted. It takes the next so many of the points.
+const POINTS: usize = 5000;
+const A_RUN: usize = 250;
+const RUNS: usize = 401;
 
 // Longitude and latitude of points that lie evenly over the sphere.
 fn points() -> Vec<[f64; 2]> {
@@ -33,20 +34,20 @@ fn time(calls: usize, run: impl FnOnce()) -> f64 {
     start.elapsed().as_nanos() as f64 / calls as f64
 }
 
-// One run of each call: open, nearest, from_lon_lat, to_lon_lat.
+// One run of each call: open once; nearest, from_lon_lat and to_lon_lat at each of the points.
 fn run(form: &mut impl Form, degrees: &[[f64; 2]], radians: &[[f64; 2]]) -> [f64; 4] {
-    let open = time(OPENS, || (0..OPENS).for_each(|_| form.open()));
-    let nearest = time(POINTS, || {
+    let open = time(1, || form.open());
+    let nearest = time(A_RUN, || {
         for p in black_box(radians) {
             black_box(form.nearest(p[0], p[1]));
         }
     });
-    let from_lon_lat = time(POINTS, || {
+    let from_lon_lat = time(A_RUN, || {
         for p in black_box(degrees) {
             black_box(form.from_lon_lat(p[0], p[1]));
         }
     });
-    let to_lon_lat = time(POINTS, || {
+    let to_lon_lat = time(A_RUN, || {
         for p in black_box(radians) {
             black_box(form.to_lon_lat(p[0], p[1]));
         }
@@ -64,7 +65,10 @@ fn interleaved(degrees: &[[f64; 2]], radians: &[[f64; 2]]) -> [Vec<[f64; 4]>; 3]
     let mut times = [const { Vec::new() }; 3];
     let (mut ours, mut stepped, mut plain) = (Ours::new(), Stepped, Plain);
     for turn in 0..3 * RUNS {
-        let form = (turn + turn / 3) % 3;
+        let round = turn / 3;
+        let at = round * A_RUN % POINTS;
+        let (degrees, radians) = (&degrees[at..at + A_RUN], &radians[at..at + A_RUN]);
+        let form = (turn + round) % 3;
         times[form].push(match form {
             0 => run(&mut ours, degrees, radians),
             1 => run(&mut stepped, degrees, radians),
@@ -81,7 +85,7 @@ fn main() {
     let radians: Vec<[f64; 2]> = degrees.iter().map(place).collect();
     agree::check(&degrees, &radians);
     let times = interleaved(&degrees, &radians);
-    println!("ns a call: medians of {RUNS} interleaved runs, {POINTS} points each");
+    println!("ns a call: medians of {RUNS} interleaved runs");
     println!("call             ours  stepped    plain  ours/stepped  ours/plain");
     for (call, name) in ["open", "nearest", "from_lon_lat", "to_lon_lat"]
         .iter()

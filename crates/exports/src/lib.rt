@@ -4,6 +4,8 @@
 //
 // A slice is two arguments in C, a pointer and then how many numbers there are. An answer of two
 // numbers is lent as a reference to an array of two, in C a pointer: it has no length to be wrong.
+// The caller sees to it that a pointer is not null, that so many numbers stand there, and that no
+// two that are lent overlap.
 use coordinates::base::Degrees;
 use coordinates::base::Radians;
 use coordinates::conversions::LonLatAnswer;
