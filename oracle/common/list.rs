@@ -42,6 +42,33 @@ impl List {
         self.record(number, refusal, arguments, &[]);
     }
 
+    // The records of a step, which takes numbers and gives numbers.
+    pub fn step<const N: usize, const M: usize>(
+        &mut self,
+        number: u8,
+        function: fn([f64; N]) -> [f64; M],
+        arguments: &[[f64; N]],
+    ) {
+        for x in arguments {
+            self.answered(number, x, &function(*x));
+        }
+    }
+
+    // The records of a call, which may refuse.
+    pub fn call<const N: usize, const M: usize>(
+        &mut self,
+        number: u8,
+        function: fn([f64; N]) -> Result<[f64; M], u8>,
+        arguments: &[[f64; N]],
+    ) {
+        for x in arguments {
+            match function(*x) {
+                Ok(answers) => self.answered(number, x, &answers),
+                Err(refusal) => self.refused(number, refusal, x),
+            }
+        }
+    }
+
     pub fn write(&self) {
         std::io::stdout()
             .write_all(&self.bytes)

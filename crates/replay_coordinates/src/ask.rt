@@ -1,5 +1,4 @@
 // The functions of crate coordinates, each at a record's arguments.
-use crate::arguments;
 use coordinates::authalic;
 use coordinates::conversions;
 use coordinates::conversions::LonLatAnswer;
@@ -34,90 +33,90 @@ fn of_lon_lat(l: LonLat) -> Outcome {
 }
 
 pub fn deg_to_rad(words: &[u8; 96]) -> Outcome {
-    let r = coordinate_transforms::deg_to_rad(arguments::degrees(words));
+    let r = coordinate_transforms::deg_to_rad(replay_arguments::degrees(words));
     one(r.0)
 }
 
 pub fn rad_to_deg(words: &[u8; 96]) -> Outcome {
-    let d = coordinate_transforms::rad_to_deg(arguments::radians(words));
+    let d = coordinate_transforms::rad_to_deg(replay_arguments::radians(words));
     one(d.0)
 }
 
 pub fn to_polar(words: &[u8; 96]) -> Outcome {
-    of_polar(coordinate_transforms::to_polar(arguments::face(words, 0)))
+    of_polar(coordinate_transforms::to_polar(replay_arguments::face(words, 0)))
 }
 
 pub fn to_face(words: &[u8; 96]) -> Outcome {
-    of_face(coordinate_transforms::to_face(arguments::polar(words)))
+    of_face(coordinate_transforms::to_face(replay_arguments::polar(words)))
 }
 
 pub fn face_to_barycentric(words: &[u8; 96]) -> Outcome {
-    let p = arguments::face(words, 0);
-    let b = coordinate_transforms::face_to_barycentric(p, arguments::triangle(words, 2));
+    let p = replay_arguments::face(words, 0);
+    let b = coordinate_transforms::face_to_barycentric(p, replay_arguments::triangle(words, 2));
     three(b.u, b.v, b.w)
 }
 
 pub fn barycentric_to_face(words: &[u8; 96]) -> Outcome {
-    let b = arguments::barycentric(words);
-    of_face(coordinate_transforms::barycentric_to_face(b, arguments::triangle(words, 3)))
+    let b = replay_arguments::barycentric(words);
+    of_face(coordinate_transforms::barycentric_to_face(b, replay_arguments::triangle(words, 3)))
 }
 
 pub fn to_spherical(words: &[u8; 96]) -> Outcome {
-    of_spherical(coordinate_transforms::to_spherical(arguments::cartesian(words, 0)))
+    of_spherical(coordinate_transforms::to_spherical(replay_arguments::cartesian(words, 0)))
 }
 
 pub fn to_cartesian(words: &[u8; 96]) -> Outcome {
-    let c = coordinate_transforms::to_cartesian(arguments::spherical(words));
+    let c = coordinate_transforms::to_cartesian(replay_arguments::spherical(words, 0));
     three(c.0.x, c.0.y, c.0.z)
 }
 
 pub fn normalize_longitude(words: &[u8; 96]) -> Outcome {
-    let d = coordinate_transforms::normalize_longitude(arguments::degrees(words));
+    let d = coordinate_transforms::normalize_longitude(replay_arguments::degrees(words));
     one(d.0)
 }
 
 pub fn authalic_forward(words: &[u8; 96]) -> Outcome {
-    let r = authalic::forward(arguments::radians(words));
+    let r = authalic::forward(replay_arguments::radians(words));
     one(r.0)
 }
 
 pub fn authalic_inverse(words: &[u8; 96]) -> Outcome {
-    let r = authalic::inverse(arguments::radians(words));
+    let r = authalic::inverse(replay_arguments::radians(words));
     one(r.0)
 }
 
 pub fn gnomonic_forward(words: &[u8; 96]) -> Outcome {
-    of_polar(gnomonic::forward(arguments::spherical(words)))
+    of_polar(gnomonic::forward(replay_arguments::spherical(words, 0)))
 }
 
 pub fn gnomonic_inverse(words: &[u8; 96]) -> Outcome {
-    of_spherical(gnomonic::inverse(arguments::polar(words)))
+    of_spherical(gnomonic::inverse(replay_arguments::polar(words)))
 }
 
 pub fn triple_product(words: &[u8; 96]) -> Outcome {
-    let a = arguments::cartesian(words, 0);
-    let b = arguments::cartesian(words, 3);
-    one(vector::triple_product(a, b, arguments::cartesian(words, 6)))
+    let a = replay_arguments::cartesian(words, 0);
+    let b = replay_arguments::cartesian(words, 3);
+    one(vector::triple_product(a, b, replay_arguments::cartesian(words, 6)))
 }
 
 pub fn length(words: &[u8; 96]) -> Outcome {
-    one(vector::length(arguments::cartesian(words, 0)))
+    one(vector::length(replay_arguments::cartesian(words, 0)))
 }
 
 pub fn vec3_distance(words: &[u8; 96]) -> Outcome {
-    let a = arguments::cartesian(words, 0);
-    one(vector::vec3_distance(a, arguments::cartesian(words, 3)))
+    let a = replay_arguments::cartesian(words, 0);
+    one(vector::vec3_distance(a, replay_arguments::cartesian(words, 3)))
 }
 
 pub fn from_lon_lat(words: &[u8; 96]) -> Outcome {
-    match conversions::from_lon_lat(arguments::lon_lat(words)) {
+    match conversions::from_lon_lat(replay_arguments::lon_lat(words)) {
         SphericalAnswer::Answered(s) => of_spherical(s),
         SphericalAnswer::Refused(r) => refused(answer::number(r)),
     }
 }
 
 pub fn to_lon_lat(words: &[u8; 96]) -> Outcome {
-    match conversions::to_lon_lat(arguments::spherical(words)) {
+    match conversions::to_lon_lat(replay_arguments::spherical(words, 0)) {
         LonLatAnswer::Answered(l) => of_lon_lat(l),
         LonLatAnswer::Refused(r) => refused(answer::number(r)),
     }

@@ -1,21 +1,8 @@
 // The two conversions as calls. The Rust refuses nothing: the refusals are document 01's, under its words.
 
+use crate::refusals::check;
 use a5::coordinate_systems::{LonLat, Spherical};
 use a5::core::coordinate_transforms;
-
-// "5: a number is infinite or NaN. 6: a number is outside its range." "Each number is tried for 5 and then 6 before the
-// next one." "Ranges, ends included."
-fn check(numbers: [f64; 2], limits: [f64; 2]) -> Result<(), u8> {
-    for (x, limit) in numbers.into_iter().zip(limits) {
-        if !x.is_finite() {
-            return Err(5);
-        }
-        if x < -limit || x > limit {
-            return Err(6);
-        }
-    }
-    Ok(())
-}
 
 // "9: the answer would have a number that isn't finite."
 fn finite(numbers: [f64; 2]) -> Result<(), u8> {

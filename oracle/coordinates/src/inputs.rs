@@ -1,78 +1,13 @@
 // The arguments that each function is asked at.
 
+use crate::arguments::{few, join, limits, pairs, spoilt, wild, within, SMALLEST};
+use crate::fields::of_spherical;
 use crate::generator::Generator;
 use crate::steps;
 use crate::values::{both_signs, moved, near, specials};
 use a5::core::origin::get_origins;
 use a5::core::tiling::get_quintant_vertices;
 use std::f64::consts::{FRAC_PI_2, FRAC_PI_4, PI};
-
-const SMALLEST: f64 = f64::from_bits(1);
-
-// Zeros, the smallest and the largest numbers, infinities and NaN.
-fn few() -> Vec<f64> {
-    both_signs(&[0.0, SMALLEST, 1.0, f64::MAX, f64::INFINITY, f64::NAN])
-}
-
-// x and a neighbour on each side, of either sign.
-fn limits(x: f64) -> Vec<f64> {
-    both_signs(&[moved(x, -1), x, moved(x, 1)])
-}
-
-fn pairs(first: &[f64], second: &[f64]) -> Vec<[f64; 2]> {
-    first
-        .iter()
-        .flat_map(|x| second.iter().map(|y| [*x, *y]))
-        .collect()
-}
-
-// Copies of x with each number in turn replaced by one that is special.
-fn spoilt<const N: usize>(x: [f64; N]) -> Vec<[f64; N]> {
-    let mut list = Vec::new();
-    for place in 0..N {
-        for special in [
-            f64::NAN,
-            f64::INFINITY,
-            -f64::INFINITY,
-            -0.0,
-            f64::MAX,
-            SMALLEST,
-        ] {
-            let mut copy = x;
-            copy[place] = special;
-            list.push(copy);
-        }
-    }
-    list
-}
-
-fn within<const N: usize>(g: &mut Generator, size: f64) -> [f64; N] {
-    std::array::from_fn(|_| g.between(-size, size))
-}
-
-fn any<const N: usize>(g: &mut Generator) -> [f64; N] {
-    std::array::from_fn(|_| g.any())
-}
-
-fn subnormal<const N: usize>(g: &mut Generator) -> [f64; N] {
-    std::array::from_fn(|_| g.subnormal())
-}
-
-// Twenty of any size, and twenty subnormal.
-fn wild<const N: usize>(g: &mut Generator) -> Vec<[f64; N]> {
-    let mut list = Vec::new();
-    for _ in 0..20 {
-        list.push(any(g));
-        list.push(subnormal(g));
-    }
-    list
-}
-
-// The two arrays one after the other.
-fn join<const A: usize, const B: usize, const N: usize>(a: [f64; A], b: [f64; B]) -> [f64; N] {
-    let both = [a.as_slice(), b.as_slice()].concat();
-    both.try_into().expect("A + B is N")
-}
 
 fn alone(list: Vec<f64>) -> Vec<[f64; 1]> {
     list.into_iter().map(|x| [x]).collect()
@@ -156,7 +91,7 @@ pub fn sphericals(g: &mut Generator) -> Vec<[f64; 2]> {
             list.push([k as f64 * FRAC_PI_4, moved(phi, 1)]);
         }
     }
-    list.extend(get_origins().iter().map(|o| steps::of_spherical(o.axis)));
+    list.extend(get_origins().iter().map(|o| of_spherical(o.axis)));
     for _ in 0..60 {
         list.push([g.between(-PI, PI), g.between(0.0, PI)]);
         list.push(within(g, 8.0));
@@ -173,7 +108,7 @@ fn unit(g: &mut Generator) -> [f64; 3] {
 fn centres() -> Vec<[f64; 3]> {
     get_origins()
         .iter()
-        .map(|o| steps::to_cartesian(steps::of_spherical(o.axis)))
+        .map(|o| steps::to_cartesian(of_spherical(o.axis)))
         .collect()
 }
 

@@ -1,44 +1,11 @@
-// The Rust's functions as functions from numbers to numbers, in the order of the Rust's fields.
+// The Rust's functions as functions from numbers to numbers.
 
-use a5::coordinate_systems::{
-    Barycentric, Cartesian, Degrees, Face, FaceTriangle, LonLat, Polar, Radians, Spherical,
-};
+use crate::fields::{cartesian, face, of_polar, of_spherical, polar, spherical, triangle};
+use a5::coordinate_systems::{Barycentric, Degrees, Radians};
 use a5::core::coordinate_transforms;
 use a5::projections::authalic::AuthalicProjection;
 use a5::projections::gnomonic::GnomonicProjection;
 use a5::utils::vector;
-
-fn face(x: &[f64]) -> Face {
-    Face::new(x[0], x[1])
-}
-
-fn triangle(x: &[f64]) -> FaceTriangle {
-    FaceTriangle::new(face(&x[0..2]), face(&x[2..4]), face(&x[4..6]))
-}
-
-fn cartesian(x: &[f64]) -> Cartesian {
-    Cartesian::new(x[0], x[1], x[2])
-}
-
-fn polar(x: [f64; 2]) -> Polar {
-    Polar::new(x[0], Radians::new_unchecked(x[1]))
-}
-
-pub fn lon_lat(x: [f64; 2]) -> LonLat {
-    LonLat::new(x[0], x[1])
-}
-
-pub fn spherical(x: [f64; 2]) -> Spherical {
-    Spherical::new(Radians::new_unchecked(x[0]), Radians::new_unchecked(x[1]))
-}
-
-pub fn of_spherical(s: Spherical) -> [f64; 2] {
-    [s.theta().get(), s.phi().get()]
-}
-
-fn of_polar(p: Polar) -> [f64; 2] {
-    [p.rho(), p.gamma().get()]
-}
 
 pub fn deg_to_rad(x: [f64; 1]) -> [f64; 1] {
     [coordinate_transforms::deg_to_rad(Degrees::new_unchecked(x[0])).get()]

@@ -35,10 +35,12 @@ pub fn polar(words: &[u8; 96]) -> Polar {
     }
 }
 
-pub fn spherical(words: &[u8; 96]) -> Spherical {
+pub fn spherical(words: &[u8; 96], place: usize) -> Spherical
+    requires { ⌜ place ≤ 10 ⌝ }
+{
     Spherical {
-        theta: Radians(argument(words, 0)),
-        phi: Radians(argument(words, 1)),
+        theta: Radians(argument(words, place)),
+        phi: Radians(argument(words, place + 1)),
     }
 }
 

@@ -1,0 +1,65 @@
+// Nearest and the functions on rotations and triangles, each at a record's arguments.
+use origin::origin::OriginAnswer;
+use origin::utils::Quat;
+use replay::outcome::Outcome;
+use replay::outcome::one;
+use replay::outcome::refused;
+use replay::outcome::three;
+use replay::record::argument;
+
+// One answer that is a whole number: it stands as it is, not as a float.
+pub fn whole(n: u64) -> Outcome {
+    Outcome {
+        status: 0,
+        count: 1,
+        first: n,
+        second: 0,
+        third: 0,
+    }
+}
+
+pub fn nearest(words: &[u8; 96]) -> Outcome {
+    match origin::origin::nearest(replay_arguments::spherical(words, 0)) {
+        OriginAnswer::Answered(id) => whole(id as u64),
+        OriginAnswer::Refused(r) => refused(answer::number(r)),
+    }
+}
+
+pub fn haversine(words: &[u8; 96]) -> Outcome {
+    let point = replay_arguments::spherical(words, 0);
+    one(origin::origin::haversine(point, replay_arguments::spherical(words, 2)))
+}
+
+fn quat(words: &[u8; 96]) -> Quat {
+    Quat {
+        x: argument(words, 3),
+        y: argument(words, 4),
+        z: argument(words, 5),
+        w: argument(words, 6),
+    }
+}
+
+pub fn transform_quat(words: &[u8; 96]) -> Outcome {
+    let v = replay_arguments::cartesian(words, 0);
+    let r = origin::quaternion::transform_quat(v, quat(words));
+    three(r.0.x, r.0.y, r.0.z)
+}
+
+pub fn get_face_triangle_index(words: &[u8; 96]) -> Outcome {
+    let index = tiling::index::get_face_triangle_index(replay_arguments::polar(words));
+    whole(index as u64)
+}
+
+pub fn normalize_gamma(words: &[u8; 96]) -> Outcome {
+    let beta = tiling::index::normalize_gamma(replay_arguments::radians(words));
+    one(beta.0)
+}
+
+// 1 for reflected, 0 for not.
+pub fn should_reflect(words: &[u8; 96]) -> Outcome {
+    if tiling::index::should_reflect(replay_arguments::polar(words)) {
+        whole(1)
+    } else {
+        whole(0)
+    }
+}

@@ -1,0 +1,98 @@
+// Open on buffers of any length, and the rows of a buffer that it has written.
+use crate::tables::NO_SUCH_PLACE;
+use dodecahedron::open::OpenAnswer;
+use dodecahedron::open::open;
+use replay::outcome::Outcome;
+use replay::outcome::refused;
+use replay::outcome::three;
+use replay::pattern::bits;
+use replay::record::word;
+ghost use Prim.Native.Nat.{_≤_};
+
+// What every buffer holds before open: a number that open never writes.
+pub const FOREIGN: f64 = 7.5;
+
+// The three numbers of a row.
+pub fn row(buffer: &[f64], words: &[u8; 96]) -> Outcome {
+    let row = word(words, 0);
+    if row >= (buffer.len() / 3) as u64 {
+        return refused(NO_SUCH_PLACE);
+    }
+    let at = 3 * (row as usize);
+    three(buffer[at], buffer[at + 1], buffer[at + 2])
+}
+
+// How many numbers are no longer the foreign one.
+fn changed(buffer: &[f64]) -> u64 {
+    let mut count: u64 = 0;
+    let mut i: usize = 0;
+    while i < buffer.len() {
+        if bits(buffer[i]) != bits(FOREIGN) {
+            count = std::num::wrapping_add_u64(count, 1);
+        }
+        i += 1;
+    }
+    count
+}
+
+// What open answered, 0 or the refusal's number, and how many numbers it changed in each buffer.
+struct Opening {
+    status: u8,
+    frame: u64,
+    face: u64,
+    sphere: u64,
+}
+
+// Open on the first numbers of three foreign buffers, a, b and c many. What lies behind is looked at too.
+fn opening(a: usize, b: usize, c: usize) -> Opening
+    requires { ⌜ (a ≤ 187) × (b ≤ 211) × (c ≤ 2401) ⌝ }
+{
+    let mut frame = [FOREIGN; 187];
+    let mut face = [FOREIGN; 211];
+    let mut sphere = [FOREIGN; 2401];
+    let status = match open(&mut frame[..a], &mut face[..b], &mut sphere[..c]) {
+        OpenAnswer::Opened => 0,
+        OpenAnswer::Refused(r) => answer::number(r),
+    };
+    Opening {
+        status: status,
+        frame: changed(&frame),
+        face: changed(&face),
+        sphere: changed(&sphere),
+    }
+}
+
+// Open at the three lengths of a record.
+fn opened(words: &[u8; 96]) -> Opening {
+    let a = word(words, 0);
+    let b = word(words, 1);
+    let c = word(words, 2);
+    if a > 187 || b > 211 || c > 2401 {
+        return Opening {
+            status: NO_SUCH_PLACE,
+            frame: 0,
+            face: 0,
+            sphere: 0,
+        };
+    }
+    opening(a as usize, b as usize, c as usize)
+}
+
+pub fn answer(words: &[u8; 96]) -> Outcome {
+    let o = opened(words);
+    refused(o.status)
+}
+
+pub fn changes(words: &[u8; 96]) -> Outcome {
+    let o = opened(words);
+    if o.status == NO_SUCH_PLACE {
+        return refused(NO_SUCH_PLACE);
+    }
+    Outcome {
+        status: 0,
+        count: 3,
+        first: o.frame,
+        second: o.face,
+        third: o.sphere,
+    }
+}

@@ -1,0 +1,71 @@
+// Ways of making arguments, which the oracles on the given Rust share.
+
+use crate::generator::Generator;
+use crate::values::{both_signs, moved};
+
+pub const SMALLEST: f64 = f64::from_bits(1);
+
+// Zeros, the smallest and the largest numbers, infinities and NaN.
+pub fn few() -> Vec<f64> {
+    both_signs(&[0.0, SMALLEST, 1.0, f64::MAX, f64::INFINITY, f64::NAN])
+}
+
+// x and a neighbour on each side, of either sign.
+pub fn limits(x: f64) -> Vec<f64> {
+    both_signs(&[moved(x, -1), x, moved(x, 1)])
+}
+
+pub fn pairs(first: &[f64], second: &[f64]) -> Vec<[f64; 2]> {
+    first
+        .iter()
+        .flat_map(|x| second.iter().map(|y| [*x, *y]))
+        .collect()
+}
+
+// Copies of x with each number in turn replaced by one that is special.
+pub fn spoilt<const N: usize>(x: [f64; N]) -> Vec<[f64; N]> {
+    let mut list = Vec::new();
+    for place in 0..N {
+        for special in [
+            f64::NAN,
+            f64::INFINITY,
+            -f64::INFINITY,
+            -0.0,
+            f64::MAX,
+            SMALLEST,
+        ] {
+            let mut copy = x;
+            copy[place] = special;
+            list.push(copy);
+        }
+    }
+    list
+}
+
+pub fn within<const N: usize>(g: &mut Generator, size: f64) -> [f64; N] {
+    std::array::from_fn(|_| g.between(-size, size))
+}
+
+pub fn any<const N: usize>(g: &mut Generator) -> [f64; N] {
+    std::array::from_fn(|_| g.any())
+}
+
+pub fn subnormal<const N: usize>(g: &mut Generator) -> [f64; N] {
+    std::array::from_fn(|_| g.subnormal())
+}
+
+// Twenty of any size, and twenty subnormal.
+pub fn wild<const N: usize>(g: &mut Generator) -> Vec<[f64; N]> {
+    let mut list = Vec::new();
+    for _ in 0..20 {
+        list.push(any(g));
+        list.push(subnormal(g));
+    }
+    list
+}
+
+// The two arrays one after the other.
+pub fn join<const A: usize, const B: usize, const N: usize>(a: [f64; A], b: [f64; B]) -> [f64; N] {
+    let both = [a.as_slice(), b.as_slice()].concat();
+    both.try_into().expect("A + B is N")
+}

@@ -1,0 +1,11 @@
+
+// Ways for the oracle to what is private here.
+impl CRS {
+    pub fn oracle_rows(&self) -> &[Cartesian] {
+        &self.vertices
+    }
+}
+
+pub fn oracle_transform_quat(v: Cartesian, q: [f64; 4]) -> Cartesian {
+    transform_quat(v, q)
+}

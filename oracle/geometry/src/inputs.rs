@@ -1,0 +1,203 @@
+// The arguments that each function is asked at.
+
+use crate::arguments::{few, join, limits, pairs, spoilt, wild, within, SMALLEST};
+use crate::calls::{FACE_STORE, FRAME, SPHERE_STORE};
+use crate::fields::{cartesian, lon_lat, of_spherical, spherical};
+use crate::generator::Generator;
+use crate::steps::{frame, whole};
+use crate::values::{both_signs, moved, near, specials};
+use a5::core::constants::{
+    DISTANCE_TO_EDGE, DISTANCE_TO_VERTEX, INTERHEDRAL_ANGLE, PI_OVER_5, TWO_PI_OVER_5,
+};
+use a5::core::coordinate_transforms::{from_lon_lat, to_cartesian, to_spherical};
+use a5::core::origin::get_origins;
+use a5::steps::{atan, cos};
+use std::f64::consts::{FRAC_PI_2, PI};
+
+pub fn range(count: usize) -> Vec<[f64; 1]> {
+    (0..count).map(|n| [whole(n)]).collect()
+}
+
+// All pairs of whole numbers below two counts.
+pub fn grid(rows: usize, columns: usize) -> Vec<[f64; 2]> {
+    let numbers = |count| (0..count).map(whole).collect::<Vec<f64>>();
+    pairs(&numbers(rows), &numbers(columns))
+}
+
+// Empty, one short, right and one long, for each buffer with each.
+pub fn lengths() -> Vec<[f64; 3]> {
+    let of = |size: usize| [0, size - 1, size, size + 1].map(whole);
+    let mut list = Vec::new();
+    for two in pairs(&of(FRAME), &of(FACE_STORE)) {
+        list.extend(of(SPHERE_STORE).map(|c| join(two, [c])));
+    }
+    list
+}
+
+// The point itself, and with either number moved by one unit and by two.
+fn around(p: [f64; 2]) -> Vec<[f64; 2]> {
+    let mut list: Vec<[f64; 2]> = near(p[0]).map(|theta| [theta, p[1]]).into();
+    list.extend([-2, -1, 1, 2].map(|steps| [p[0], moved(p[1], steps)]));
+    list
+}
+
+// The meridians from -93 degrees on, every 18: on them origins tie.
+fn meridians() -> Vec<[f64; 2]> {
+    // the two rings of axes, the north face's corners, the equator
+    let ring = INTERHEDRAL_ANGLE.get();
+    let circles = [ring, PI - ring, atan(DISTANCE_TO_VERTEX), FRAC_PI_2];
+    let mut list = Vec::new();
+    for k in 0..20 {
+        for latitude in -6..=6 {
+            let place = [-93.0 + 18.0 * k as f64, 15.0 * latitude as f64];
+            list.push(of_spherical(from_lon_lat(lon_lat(place))));
+        }
+        let theta = k as f64 * PI / 10.0;
+        list.extend(circles.map(|phi| [theta, phi]));
+    }
+    list
+}
+
+fn rows() -> Vec<[f64; 3]> {
+    range(FRAME / 3).into_iter().map(frame).collect()
+}
+
+// On the borders between faces: the dodecahedron's vertices and midpoints of edges, and halfway between the two.
+fn borders() -> Vec<[f64; 2]> {
+    let rows = rows();
+    let mut list: Vec<[f64; 2]> = Vec::new();
+    for p in &rows[12..] {
+        list.extend(around(of_spherical(to_spherical(cartesian(p)))));
+    }
+    for p in &rows[12..32] {
+        for q in &rows[32..] {
+            let half: [f64; 3] = std::array::from_fn(|i| (p[i] + q[i]) / 2.0);
+            if half.map(|x| x * x).iter().sum::<f64>() > 0.95 {
+                let at = of_spherical(to_spherical(cartesian(&half)));
+                list.extend([at, [at[0], moved(at[1], 1)], [moved(at[0], 1), at[1]]]);
+            }
+        }
+    }
+    list
+}
+
+// Theta and phi: the limits and their neighbours, and what is not finite, each with each; the poles; ties; borders; the
+// sphere.
+pub fn nearest(g: &mut Generator) -> Vec<[f64; 2]> {
+    let broken = [f64::NAN, f64::INFINITY, -f64::INFINITY, f64::MAX, SMALLEST];
+    let edges = [&limits(8.0)[..], &broken, &[0.0, -0.0, FRAC_PI_2, -PI, PI]].concat();
+    let mut list = pairs(&edges, &edges);
+    for k in -10..=10 {
+        let theta = k as f64 * PI / 5.0;
+        list.extend([0.0, moved(PI, -1), PI, moved(PI, 1), -PI].map(|phi| [theta, phi]));
+    }
+    list.extend(meridians());
+    list.extend(borders());
+    list.extend(get_origins().iter().map(|o| of_spherical(o.axis)));
+    for _ in 0..150 {
+        list.push([g.between(-PI, PI), g.between(0.0, PI)]);
+        list.push(within(g, 8.0));
+    }
+    list.extend(wild(g));
+    list
+}
+
+// Two points of the sphere: one and each axis, the same twice, opposite; then one number special.
+pub fn two_points(g: &mut Generator) -> Vec<[f64; 4]> {
+    let mut list = Vec::new();
+    for origin in get_origins() {
+        let axis = of_spherical(origin.axis);
+        let opposite = [axis[0] + PI, PI - axis[1]];
+        list.extend([axis, opposite, [0.0, 0.0]].map(|point| join(point, axis)));
+        for _ in 0..8 {
+            list.push(join([g.between(-PI, PI), g.between(0.0, PI)], axis));
+        }
+    }
+    for _ in 0..60 {
+        list.push(within(g, 8.0));
+        list.push(within(g, 1e6));
+    }
+    list.extend(spoilt(within::<4>(g, 3.0)));
+    list.extend(wild(g));
+    list
+}
+
+// A vector and a quaternion: each origin's and its inverse on the axes, the rows and unit vectors; any; one number special.
+pub fn turns(g: &mut Generator) -> Vec<[f64; 7]> {
+    let rows = rows();
+    let mut list = Vec::new();
+    for origin in get_origins() {
+        for q in [origin.quat, origin.inverse_quat] {
+            let axes = [[1.0, 0.0, 0.0], [0.0, 1.0, 0.0], [0.0, 0.0, 1.0]];
+            list.extend(axes.map(|v| join(v, q)));
+            for _ in 0..2 {
+                let at = [g.between(-PI, PI), g.between(0.0, PI)];
+                list.push(join(to_cartesian(spherical(at)).into(), q));
+            }
+            list.push(join(rows[g.whole(0, 62) as usize], q));
+        }
+    }
+    for _ in 0..60 {
+        list.push(within(g, 1.0));
+        list.push(within(g, 1e3));
+    }
+    list.extend(spoilt(within::<7>(g, 1.0)));
+    list.extend(wild(g));
+    list
+}
+
+// Every tenth of a turn and every twentieth, with neighbours.
+fn tenths() -> Vec<f64> {
+    let mut list = Vec::new();
+    for k in -25..=25 {
+        list.extend(near(k as f64 * PI_OVER_5.get()));
+        list.extend(near((k as f64 + 0.5) * PI_OVER_5.get()));
+    }
+    list
+}
+
+// Polar points for the index: the borders of the triangles, zeros, subnormals and a NaN, within two turns, and far. Beyond
+// 2^31 tenths of a turn the Rust's 32-bit number is full, and the index here is not the Rust's.
+pub fn index_points(g: &mut Generator) -> Vec<[f64; 2]> {
+    let mut gammas = tenths();
+    gammas.extend(both_signs(&[0.0, SMALLEST, f64::MIN_POSITIVE, f64::NAN]));
+    for size in [4.0, 13.0, 1e3, 1e9] {
+        for _ in 0..40 {
+            gammas.push(g.between(-size, size));
+        }
+    }
+    gammas.into_iter().map(|gamma| [g.unit(), gamma]).collect()
+}
+
+pub fn gammas(g: &mut Generator) -> Vec<[f64; 1]> {
+    let mut list = [tenths(), specials()].concat();
+    for size in [4.0, 13.0, 1e3] {
+        for _ in 0..40 {
+            list.push(g.between(-size, size));
+        }
+    }
+    let mut list: Vec<[f64; 1]> = list.into_iter().map(|x| [x]).collect();
+    list.extend(wild(g));
+    list
+}
+
+// Polar points about the edge of the face: at its midpoints, at the corners, and elsewhere on it; special pairs; any.
+pub fn edge_points(g: &mut Generator) -> Vec<[f64; 2]> {
+    let mut list = pairs(&few(), &few());
+    for k in -6..=6 {
+        let middle = k as f64 * TWO_PI_OVER_5.get();
+        let corner = middle + PI_OVER_5.get();
+        list.extend(pairs(&near(DISTANCE_TO_EDGE), &[middle, moved(middle, 1)]));
+        list.extend(pairs(&near(DISTANCE_TO_VERTEX), &near(corner)));
+    }
+    for _ in 0..60 {
+        let turn = g.whole(-3, 4) as f64 * TWO_PI_OVER_5.get();
+        let beta = g.between(-PI / 5.0, PI / 5.0);
+        let rho = DISTANCE_TO_EDGE / cos(beta);
+        list.extend(near(rho).map(|rho| [rho, turn + beta]));
+        list.push([g.between(0.0, 1.0), g.between(-PI, PI)]);
+        list.push([g.between(-20.0, 20.0), g.between(-8.0, 8.0)]);
+    }
+    list.extend(wild(g));
+    list
+}

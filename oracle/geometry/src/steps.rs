@@ -1,0 +1,80 @@
+// The Rust's functions as functions from numbers to numbers. A whole number stands as it is, not as a float.
+
+use crate::fields::{cartesian, of_spherical, polar, spherical};
+use a5::coordinate_systems::Radians;
+use a5::core::origin::{self, get_origins};
+use a5::projections::crs::{self, CRS};
+use a5::projections::dodecahedron::{self, DodecahedronProjection};
+
+// The float with the bits of a whole number, as the list has it, and back.
+pub fn whole(n: usize) -> f64 {
+    f64::from_bits(n as u64)
+}
+
+pub fn of_whole(x: f64) -> usize {
+    x.to_bits() as usize
+}
+
+fn projection() -> &'static mut DodecahedronProjection {
+    DodecahedronProjection::get_thread_local()
+}
+
+// Of the origin with a number, the number at a place: axis theta, phi, quaternion x, y, z, w, angle.
+pub fn origin(x: [f64; 2]) -> [f64; 1] {
+    let [id, place] = x.map(of_whole);
+    let origin = &get_origins()[id];
+    assert_eq!(origin.id as usize, id);
+    let all = [
+        &of_spherical(origin.axis)[..],
+        &origin.quat,
+        &[origin.angle.get()],
+    ]
+    .concat();
+    [all[place]]
+}
+
+// Of the triangle of a face slot, a corner. "Face slot i (0..9) is the base triangle, 10+i reflected with scale 2, 20+i
+// reflected and squashed."
+pub fn face_triangle(x: [f64; 2]) -> [f64; 2] {
+    let [slot, corner] = x.map(of_whole);
+    let t = projection().oracle_face_triangle(slot % 10, slot >= 10, slot >= 20);
+    [t.a, t.b, t.c][corner].into()
+}
+
+pub fn frame(x: [f64; 1]) -> [f64; 3] {
+    let crs = CRS::new().expect("the frame has 62 rows");
+    crs.oracle_rows()[of_whole(x[0])].into()
+}
+
+pub fn haversine(x: [f64; 4]) -> [f64; 1] {
+    let (point, axis) = (spherical([x[0], x[1]]), spherical([x[2], x[3]]));
+    [origin::haversine(point, axis)]
+}
+
+fn bits(x: [f64; 3]) -> [u64; 3] {
+    x.map(|x| if x.is_nan() { 0 } else { x.to_bits() })
+}
+
+// The Rust has it twice; both must give the same.
+pub fn transform_quat(x: [f64; 7]) -> [f64; 3] {
+    let (v, q) = (cartesian(&x[0..3]), [x[3], x[4], x[5], x[6]]);
+    let answer: [f64; 3] = crs::oracle_transform_quat(v, q).into();
+    let other: [f64; 3] = dodecahedron::oracle_transform_quat(v, q).into();
+    assert_eq!(bits(answer), bits(other), "transform_quat of {x:?}");
+    answer
+}
+
+pub fn triangle_index(x: [f64; 2]) -> [f64; 1] {
+    [whole(projection().oracle_triangle_index(polar(x)))]
+}
+
+pub fn normalize_gamma(x: [f64; 1]) -> [f64; 1] {
+    [projection()
+        .oracle_normalize_gamma(Radians::new_unchecked(x[0]))
+        .get()]
+}
+
+// 1 for reflected, 0 for not.
+pub fn should_reflect(x: [f64; 2]) -> [f64; 1] {
+    [whole(projection().oracle_should_reflect(polar(x)) as usize)]
+}
