@@ -36,15 +36,24 @@ fn changed(buffer: &[f64]) -> u64 {
 }
 
 // What open answered, 0 or the refusal's number, and how many numbers it changed in each buffer.
-struct Opening {
+struct Effect {
     status: u8,
     frame: u64,
     face: u64,
     sphere: u64,
 }
 
+fn effect_on(status: u8, frame: &[f64; 187], face: &[f64; 211], sphere: &[f64; 2401]) -> Effect {
+    Effect {
+        status: status,
+        frame: changed(frame),
+        face: changed(face),
+        sphere: changed(sphere),
+    }
+}
+
 // Open on the first numbers of three foreign buffers, a, b and c many. What lies behind is looked at too.
-fn opening(a: usize, b: usize, c: usize) -> Opening
+fn opening(a: usize, b: usize, c: usize) -> Effect
     requires { ⌜ (a ≤ 187) × (b ≤ 211) × (c ≤ 2401) ⌝ }
 {
     let mut frame = [FOREIGN; 187];
@@ -54,21 +63,16 @@ fn opening(a: usize, b: usize, c: usize) -> Opening
         OpenAnswer::Opened => 0,
         OpenAnswer::Refused(r) => answer::number(r),
     };
-    Opening {
-        status: status,
-        frame: changed(&frame),
-        face: changed(&face),
-        sphere: changed(&sphere),
-    }
+    effect_on(status, &frame, &face, &sphere)
 }
 
 // Open at the three lengths of a record.
-fn opened(words: &[u8; 96]) -> Opening {
+fn opened(words: &[u8; 96]) -> Effect {
     let a = word(words, 0);
     let b = word(words, 1);
     let c = word(words, 2);
     if a > 187 || b > 211 || c > 2401 {
-        return Opening {
+        return Effect {
             status: NO_SUCH_PLACE,
             frame: 0,
             face: 0,
