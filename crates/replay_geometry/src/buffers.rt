@@ -7,7 +7,9 @@ use replay::outcome::refused;
 use replay::outcome::three;
 use replay::pattern::bits;
 use replay::record::word;
+ghost use mathlib.Core.Path.{_≡_};
 ghost use Prim.Native.Nat.{_≤_};
+ghost use Rattle.replay_geometry.specs.Foreign.{AllForeign};
 
 // What every buffer holds before open: a number that open never writes.
 pub const FOREIGN: f64 = 7.5;
@@ -22,13 +24,15 @@ pub fn row(buffer: &[f64], words: &[u8; 96]) -> Outcome {
     three(buffer[at], buffer[at + 1], buffer[at + 2])
 }
 
-// How many numbers are no longer the foreign one.
-fn changed(buffer: &[f64]) -> u64 {
-    let mut count: u64 = 0;
+// How many numbers are no longer the foreign one, bit for bit: none only where each still is.
+fn changed(buffer: &[f64]) -> usize
+    ensures { λ r. ⌜ (r ≡ 0 → AllForeign (now (buffer .entry))) ⌝ }
+{
+    let mut count: usize = 0;
     let mut i: usize = 0;
     while i < buffer.len() {
         if bits(buffer[i]) != bits(FOREIGN) {
-            count = std::num::wrapping_add_u64(count, 1);
+            count += 1;
         }
         i += 1;
     }
@@ -38,9 +42,9 @@ fn changed(buffer: &[f64]) -> u64 {
 // What open answered, 0 or the refusal's number, and how many numbers it changed in each buffer.
 struct Effect {
     status: u8,
-    frame: u64,
-    face: u64,
-    sphere: u64,
+    frame: usize,
+    face: usize,
+    sphere: usize,
 }
 
 fn effect_on(status: u8, frame: &[f64; 187], face: &[f64; 211], sphere: &[f64; 2401]) -> Effect {
@@ -95,8 +99,8 @@ pub fn changes(words: &[u8; 96]) -> Outcome {
     Outcome {
         status: 0,
         count: 3,
-        first: o.frame,
-        second: o.face,
-        third: o.sphere,
+        first: o.frame as u64,
+        second: o.face as u64,
+        third: o.sphere as u64,
     }
 }
