@@ -86,6 +86,7 @@ fn opened(words: &[u8; 96]) -> Effect {
     opening(a as usize, b as usize, c as usize)
 }
 
+// Without answers: status 0 is all that an opened set is given.
 pub fn answer(words: &[u8; 96]) -> Outcome {
     let o = opened(words);
     refused(o.status)
