@@ -4,3 +4,4 @@ pub mod Overwrite
 pub mod Opening
 pub mod Runs
 pub mod Worked
+pub mod Ended

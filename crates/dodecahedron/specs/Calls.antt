@@ -129,6 +129,10 @@ finishWith f w = bind (f (w .answer)) λ y. answered (record { answer = y; used 
 unfoldable pub call : {X Y : Type 0} → Given (Unit {0}) → Given (Work X) → (X → Given Y) → Given (Work Y)
 call check core f = andThen check (bind core (finishWith f))
 
+-- place's final answer: the origin's id with the face point
+unfoldable pub placed : ℕ → Face → Given Place
+placed o f = bind (finiteFace f) λ g. answered (record { origin = o; face = g })
+
 -- row k of a frame
 abbrev pub rowAt : List Float → ℕ → Cartesian
 rowAt frame k = cartesian (getD frame (k * 3) nan) (getD frame (k * 3 + 1) nan) (getD frame (k * 3 + 2) nan)
@@ -185,12 +189,12 @@ module _ (A : Arith) (table frame face sphere : List Float) where
   unfoldable pub inverseGiven : Face → ℕ → Given (Work Spherical)
   inverseGiven f o = call (andThen (andThen (checkBuffers frame face sphere) (checkOrigin o)) (checkFace f)) (inverseCore f o) finiteSpherical
 
-  -- "Place is from_lon_lat, find_nearest_origin, forward": 1, 2, 3, longitude, latitude
+  -- "Place is from_lon_lat, find_nearest_origin, forward": 1, 2, 3, longitude, latitude. Its answer is a face point and the origin's id.
   unfoldable pub placeGiven : LonLat → Given (Work Place)
   placeGiven p =
       let s = fromLonLat A p in
       let o = nearestOrigin A table s in
-      call (andThen (checkBuffers frame face sphere) (checkLonLat p)) (forwardCore s o) (λ f. bind (finiteFace f) λ g. answered (record { origin = o; face = g }))
+      call (andThen (checkBuffers frame face sphere) (checkLonLat p)) (forwardCore s o) (placed o)
 
   -- "unplace is inverse, to_lon_lat": 1, 2, 3, 4, x, y
   unfoldable pub unplaceGiven : Face → ℕ → Given (Work LonLat)
