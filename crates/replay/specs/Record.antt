@@ -1,6 +1,8 @@
 -- The big-endian numbers in a record, and the outcome that it stores. Definitions only.
 use Prim.Native.Nat.{ℕ, _+_, _*_, _≤_, _<_}
+use mathlib.Core.Bool.{true, false}
 use mathlib.Core.List.{List}
+use lib.Dec.{ltb}
 use lib.ListN.{getD}
 use Rattle.replay.specs.Outcome.{outcomeOf}
 use Rattle.replay.specs.declared.outcome.Outcome.{Outcome}
@@ -16,9 +18,9 @@ fourOf a b c d = a * 16777216 + b * 65536 + c * 256 + d
 abbrev pub fourAt : List ℕ → ℕ → ℕ
 fourAt s at = fourOf (getD s at 0) (getD s (at + 1) 0) (getD s (at + 2) 0) (getD s (at + 3) 0)
 
--- the word at a place, of eight bytes
-abbrev pub wordAt : List ℕ → ℕ → ℕ
-wordAt s place = fourAt s (8 * place) * 4294967296 + fourAt s (8 * place + 4)
+-- the word at a place, of eight bytes; beyond the twelve it is 0
+unfoldable pub wordAt : List ℕ → ℕ → ℕ
+wordAt s place = elim (ltb 11 place) [ true ↦ 0 | false ↦ fourAt s (8 * place) * 4294967296 + fourAt s (8 * place + 4) ]
 
 -- a head's record has room for its words, and its function a place in the counts
 pub record WellFormed (h : Head) : Type 0 where

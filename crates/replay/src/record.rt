@@ -7,7 +7,6 @@ ghost use mathlib.Core.Path.{_≡_};
 ghost use mathlib.Core.Bool.{false};
 ghost use Prim.Native.Nat.{_+_, _*_, _≤_, _<_};
 ghost use lib.Ieee.{binary64, ofBits};
-ghost use lib.ListN.{length};
 ghost use Rattle.replay.specs.Record.{fourOf, fourAt, wordAt, storedIn, WellFormed, Ready};
 
 // The function's number, 0 or the number of its refusal, and how many words are arguments and answers.
@@ -46,17 +45,18 @@ fn four(words: &[u8; 96], at: usize) -> u64
     of_four(words[at], words[at + 1], words[at + 2], words[at + 3])
 }
 
-// The word at a place, counted from 0.
+// The word at a place, counted from 0; beyond the twelve it is 0.
 pub fn word(words: &[u8; 96], place: usize) -> u64
-    requires { ⌜ place < 12 ⌝ }
     ensures { λ r. ⌜ r ≡ wordAt (now (words .entry)) place ⌝ }
 {
+    if place > 11 {
+        return 0;
+    }
     four(words, 8 * place) * 4294967296 + four(words, 8 * place + 4)
 }
 
 // The argument at a place.
 pub fn argument(words: &[u8; 96], place: usize) -> f64
-    requires { ⌜ place < 12 ⌝ }
     ensures { λ r. ⌜ r ≡ ofBits binary64 (wordAt (now (words .entry)) place) ⌝ }
 {
     value(word(words, place))
@@ -64,7 +64,6 @@ pub fn argument(words: &[u8; 96], place: usize) -> f64
 
 // The outcome that the record has. Where it has fewer than three answers, the words after them are 0.
 pub fn stored(head: Head, words: &[u8; 96]) -> Outcome
-    requires { ⌜ head .arguments ≤ 9 ⌝ }
     ensures { λ r. ⌜ r ≡ storedIn head (now (words .entry)) ⌝ }
 {
     let place = head.arguments as usize;
@@ -95,11 +94,13 @@ fn is_unknown(head: Head, takes: &[u8]) -> bool
     takes[number] != b'0' + head.arguments
 }
 
-// Reads a record. The words that it does not have keep what they hold.
+// Reads a record, into room for twelve words. The words that it does not have keep what they hold.
 pub fn read(takes: &[u8], words: &mut [u8]) -> Next
-    requires { ⌜ length (now words) ≡ 96 ⌝ }
     ensures { λ r. ⌜ Ready r ⌝ }
 {
+    if words.len() != 96 {
+        return Next::Done;
+    }
     let mut s = [0u8; 4];
     let n = io::read_full(STDIN_FILENO, &mut s);
     if n == 0 {

@@ -3,7 +3,6 @@ use crate::outcome::Outcome;
 use crate::record::Head;
 use crate::record::word;
 use libc::STDOUT_FILENO;
-ghost use Prim.Native.Nat.{_+_, _≤_};
 
 // Writes the name after the number-th space.
 fn name(names: &[u8], number: u8) {
@@ -28,9 +27,7 @@ fn decimal(number: u8) {
     io::print_decimal(STDOUT_FILENO, number as u64);
 }
 
-fn arguments(words: &[u8; 96], count: usize)
-    requires { ⌜ count ≤ 9 ⌝ }
-{
+fn arguments(words: &[u8; 96], count: usize) {
     let mut place: usize = 0;
     while place < count {
         field(word(words, place));
@@ -56,9 +53,7 @@ fn outcome(o: Outcome) {
 }
 
 // A record that differs: its function, its arguments, the stored outcome and the one that was given.
-pub fn difference(names: &[u8], head: Head, words: &[u8; 96], stored: Outcome, given: Outcome)
-    requires { ⌜ head .arguments ≤ 9 ⌝ }
-{
+pub fn difference(names: &[u8], head: Head, words: &[u8; 96], stored: Outcome, given: Outcome) {
     name(names, head.number);
     io::write_all(STDOUT_FILENO, b" at");
     arguments(words, head.arguments as usize);
@@ -96,10 +91,11 @@ fn summary(names: &[u8], number: u8, compared: u64, differ: u64) {
     io::write_all(STDOUT_FILENO, b" differ\n");
 }
 
-// A line for each function, up to and with the last.
-pub fn summaries(names: &[u8], last: u8, compared: &[u64; 32], differ: &[u64; 32])
-    requires { ⌜ last ≤ 31 ⌝ }
-{
+// A line for each function, up to and with the last; none where that is beyond the counts.
+pub fn summaries(names: &[u8], last: u8, compared: &[u64; 32], differ: &[u64; 32]) {
+    if last > 31 {
+        return;
+    }
     let mut number: u8 = 1;
     while number <= last {
         summary(

@@ -5,10 +5,10 @@ use crate::record::Head;
 use crate::record::stored;
 use crate::report;
 ghost use mathlib.Core.Path.{_≡_};
-ghost use Prim.Native.Nat.{_≤_, _<_};
+ghost use Prim.Native.Nat.{_<_};
 ghost use Rattle.replay.specs.Outcome.{same};
 ghost use Rattle.replay.specs.Record.{storedIn};
-ghost use Rattle.replay.specs.Tally.{counted, countedUnless};
+ghost use Rattle.replay.specs.Tally.{counted, countedUnless, within};
 
 fn count(counts: &mut [u64; 32], number: usize)
     requires { ⌜ number < 32 ⌝ }
@@ -18,7 +18,7 @@ fn count(counts: &mut [u64; 32], number: usize)
 }
 
 // Counts the outcome that was given, and whether it differs from the record's. Of each function the first three
-// records that differ are shown.
+// records that differ are shown. A number beyond the counts is not counted.
 pub fn compare(
     names: &[u8],
     head: Head,
@@ -27,12 +27,13 @@ pub fn compare(
     compared: &mut [u64; 32],
     differ: &mut [u64; 32],
 )
-    requires { ⌜ head .number < 32 ⌝ }
-    requires { ⌜ head .arguments ≤ 9 ⌝ }
-    ensures { λ _. ⌜ now (compared .exit) ≡ counted (now (compared .entry)) (head .number) ⌝ }
-    ensures { λ _. ⌜ now (differ .exit) ≡ countedUnless (same given (storedIn head (now (words .entry)))) (now (differ .entry)) (head .number) ⌝ }
+    ensures { λ _. ⌜ now (compared .exit) ≡ within (head .number) (now (compared .entry)) (counted (now (compared .entry)) (head .number)) ⌝ }
+    ensures { λ _. ⌜ now (differ .exit) ≡ within (head .number) (now (differ .entry)) (countedUnless (same given (storedIn head (now (words .entry)))) (now (differ .entry)) (head .number)) ⌝ }
 {
     let number = head.number as usize;
+    if number > 31 {
+        return;
+    }
     let expected = stored(head, words);
     count(compared, number);
     if agree(given, expected) {

@@ -11,7 +11,7 @@ use coordinates::spherical::Spherical;
 use coordinates::vec2::Vec2;
 use coordinates::vec3::Vec3;
 use replay::record::argument;
-ghost use Prim.Native.Nat.{_≤_};
+ghost use Prim.Native.Nat.{_<_};
 
 pub fn degrees(words: &[u8; 96]) -> Degrees {
     Degrees(argument(words, 0))
@@ -35,12 +35,10 @@ pub fn polar(words: &[u8; 96]) -> Polar {
     }
 }
 
-pub fn spherical(words: &[u8; 96], place: usize) -> Spherical
-    requires { ⌜ place ≤ 10 ⌝ }
-{
+pub fn spherical(words: &[u8; 96], place: u8) -> Spherical {
     Spherical {
-        theta: Radians(argument(words, place)),
-        phi: Radians(argument(words, place + 1)),
+        theta: Radians(argument(words, place as usize)),
+        phi: Radians(argument(words, place as usize + 1)),
     }
 }
 
@@ -52,8 +50,8 @@ pub fn barycentric(words: &[u8; 96]) -> Barycentric {
     }
 }
 
-pub fn face(words: &[u8; 96], place: usize) -> Face
-    requires { ⌜ place ≤ 10 ⌝ }
+fn face_at(words: &[u8; 96], place: usize) -> Face
+    requires { ⌜ place < 260 ⌝ }
 {
     Face(Vec2 {
         x: argument(words, place),
@@ -61,22 +59,22 @@ pub fn face(words: &[u8; 96], place: usize) -> Face
     })
 }
 
-pub fn triangle(words: &[u8; 96], place: usize) -> FaceTriangle
-    requires { ⌜ place ≤ 6 ⌝ }
-{
+pub fn face(words: &[u8; 96], place: u8) -> Face {
+    face_at(words, place as usize)
+}
+
+pub fn triangle(words: &[u8; 96], place: u8) -> FaceTriangle {
     FaceTriangle {
-        a: face(words, place),
-        b: face(words, place + 2),
-        c: face(words, place + 4),
+        a: face_at(words, place as usize),
+        b: face_at(words, place as usize + 2),
+        c: face_at(words, place as usize + 4),
     }
 }
 
-pub fn cartesian(words: &[u8; 96], place: usize) -> Cartesian
-    requires { ⌜ place ≤ 9 ⌝ }
-{
+pub fn cartesian(words: &[u8; 96], place: u8) -> Cartesian {
     Cartesian(Vec3 {
-        x: argument(words, place),
-        y: argument(words, place + 1),
-        z: argument(words, place + 2),
+        x: argument(words, place as usize),
+        y: argument(words, place as usize + 1),
+        z: argument(words, place as usize + 2),
     })
 }

@@ -9,4 +9,4 @@ returns : tie.Need-returns
 returns c = c .value .ensures ∙ ap (ofBits binary64) (c .before .word .ensures)
 
 pub argument-spec : {M : Type 1} → statement M
-argument-spec = tie.close (tie.spec (λ c κs. search needs) (λ c κs. tt) returns)
+argument-spec = tie.close (tie.spec (λ c κs. tt) (λ c κs. tt) returns)

@@ -17,7 +17,7 @@ arguments-spec =
     Inv-loop
     μ-loop
     (λ c. search needs)
-    (λ c κs. search needs)
+    (λ c κs. tt)
     (λ c κs. tt)
     (λ c. search needs)
     (λ c. search needs)

@@ -11,20 +11,4 @@ abbrev μ-loop : tie.MeasureT-loop
 μ-loop names last compared differ number₀ number = last + 1 - number
 
 pub summaries-spec : {M : Type 1} → statement M
-summaries-spec =
-    tie.close
-    (tie.spec
-    Inv-loop
-    μ-loop
-    (λ c. search needs)
-    (λ c. search needs)
-    (λ c. search needs)
-    (λ c. search needs)
-    (λ c. search needs)
-    (λ c. search needs)
-    (λ c. search needs)
-    (λ c κs. tt)
-    (λ c. search needs)
-    (λ c. search needs)
-    (λ c. search needs)
-    (λ c. tt))
+summaries-spec = tie.close (tie.spec Inv-loop μ-loop (λ c. tt) (λ c. search needs) (λ c. search needs) (λ c. search needs) (λ c. search needs) (λ c. search needs) (λ c. search needs) (λ c. search needs) (λ c κs. tt) (λ c. search needs) (λ c. search needs) (λ c. search needs) (λ c. tt))

@@ -1,11 +1,12 @@
 -- `tally::compare` meets its contract: a difference is counted exactly where the outcome is not that of the record. Assumes nothing.
 use borrow.Author.Needs.{needs}
+use borrow.Author.Tests.{lt-ltb, le-ltb}
 use Prim.Native.Nat.{ℕ}
 use mathlib.Core.Path.{_≡_, sym, _∙_, ap}
 use mathlib.Core.Bool.{Bool, true, false}
 use mathlib.Core.List.{List}
 use Rattle.replay.specs.Outcome.{same}
-use Rattle.replay.specs.Tally.{countedUnless}
+use Rattle.replay.specs.Tally.{countedUnless, within}
 use Rattle.replay.proofs.tally.compare.Statement.{statement}
 use Rattle.replay.proofs.tally.compare.Tie as tie
 
@@ -14,34 +15,22 @@ decided : (b v : Bool) (counts : List ℕ) (number : ℕ) → b ≡ v → counte
 decided b v counts number e = ap (λ (t : Bool). countedUnless t counts number) (sym e)
 
 returns : tie.Need-returns
-returns c =
-    let counted = c .before .before in
-    let expected = counted .before .before in (
-      counted .count .ensures,
-      decided _ true _ _ (ap (same _) (sym (expected .stored .ensures)) ∙ sym (c .before .agree .ensures) ∙ c .if1 .taken),
-    )
+unfolding within
+returns c = let beyond = lt-ltb _ _ (c .if1 .taken) in (rw (beyond, within), rw (beyond, within))
 
 returns-2 : tie.Need-returns-2
+unfolding within
 returns-2 c =
-    let test = c .before .before .before .before in
-    let counted = test .before .before in
-    let expected = counted .before .before in (
-      counted .count .ensures,
-      c .count2 .ensures
-          ∙ decided _ false _ _ (ap (same _) (sym (expected .stored .ensures)) ∙ sym (test .before .agree .ensures) ∙ test .if1 .left),
+    let counts = le-ltb _ _ (c .before .before .before .before .before .if1 .left) in
+    (rw (counts, within) (c .before .before .count .ensures), rw (counts, within) (decided _ true _ _ (ap (same _) (sym (c .before .before .before .before .stored .ensures)) ∙ sym (c .before .agree .ensures) ∙ c .if2 .taken)))
+
+returns-3 : tie.Need-returns-3
+unfolding within
+returns-3 c =
+    let counts = le-ltb _ _ (c .before .before .before .before .before .before .before .before .before .if1 .left) in (
+      rw (counts, within) (c .before .before .before .before .before .before .count .ensures),
+      rw (counts, within) (c .count2 .ensures ∙ decided _ false _ _ (ap (same _) (sym (c .before .before .before .before .before .before .before .before .stored .ensures)) ∙ sym (c .before .before .before .before .before .agree .ensures) ∙ c .before .before .before .before .if2 .left)),
     )
 
 pub compare-spec : {M : Type 1} → statement M
-compare-spec =
-    tie.close
-    (tie.spec
-    (λ c. search needs)
-    (λ c κs. search needs)
-    (λ c κs. search needs)
-    (λ c κs. tt)
-    returns
-    (λ c. search needs)
-    (λ c. search needs)
-    (λ c κs. search needs)
-    (λ c κs. search needs)
-    returns-2)
+compare-spec = tie.close (tie.spec (λ c. search needs) returns (λ c κs. search needs) (λ c κs. search needs) (λ c κs. search needs) returns-2 (λ c. search needs) (λ c. search needs) (λ c κs. search needs) (λ c κs. search needs) returns-3)
