@@ -16,10 +16,11 @@ use Rattle.coordinates.specs.declared.coords.Face.{Face}
 use Rattle.coordinates.specs.declared.lonlat.LonLat.{LonLat}
 use Rattle.coordinates.specs.declared.spherical.Spherical.{Spherical}
 use Rattle.origin.specs.Nearest.{nearestOrigin}
-use Rattle.dodecahedron.specs.Sizes.{FRAME, FACE-STORE, SPHERE-STORE}
-use Rattle.dodecahedron.specs.Set.{checkSet}
-use Rattle.dodecahedron.specs.Calls.{Work, checkBuffers, checkOrigin, checkFace, finiteFace, placed, finishWith, call, forwardCore, inverseCore, forwardGiven, inverseGiven, placeGiven, unplaceGiven}
-use Rattle.dodecahedron.proofs.Lengths.{set-passed}
+use Rattle.set.specs.Sizes.{FRAME, FACE-STORE, SPHERE-STORE}
+use Rattle.set.specs.Set.{checkSet}
+use Rattle.set.specs.Checks.{checkBuffers, checkOrigin, checkFace, finiteFace}
+use Rattle.dodecahedron.specs.Calls.{Work, placed, finishWith, call, forwardCore, inverseCore, forwardGiven, inverseGiven, placeGiven, unplaceGiven}
+use Rattle.set.proofs.Lengths.{set-passed}
 
 -- what the core's and the writer's `requires` ask
 pub set-fits : (a b c o : ℕ) → andThen (checkSet a b c) (checkOrigin o) ≡ passed → ((a ≡ FRAME) × (b ≡ FACE-STORE)) × ((c ≡ SPHERE-STORE) × (o < 12))

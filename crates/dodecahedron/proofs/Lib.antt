@@ -1,7 +1,4 @@
 -- Laws behind the proofs of the functions.
-pub mod Lengths
-pub mod Overwrite
-pub mod Opening
 pub mod Runs
 pub mod Worked
 pub mod Ended

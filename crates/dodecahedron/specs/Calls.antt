@@ -1,16 +1,13 @@
 -- Document 01, "Calls and their numbers" and "Triangles and calls": forward, inverse, place and unplace: what each gives, and what it leaves in the stores, for all contents of the
 -- buffers, over a table of origins (projections/dodecahedron.rs). Definitions only.
 use Prim.Native.Nat.{ℕ, _+_, _*_}
-use mathlib.Core.Bool.{Bool, true, false, not, _&&_}
+use mathlib.Core.Bool.{Bool, true, false}
 use mathlib.Core.List.{List}
-use lib.Dec.{ltb}
-use lib.ListN.{length, getD}
+use lib.ListN.{getD}
 use lib.Ieee.{Float, nan}
-use Rattle.answer.specs.Given.{Given, answered, refused, passed, refuseIf, andThen, bind}
+use Rattle.answer.specs.Given.{Given, answered, refused, andThen, bind}
 use Rattle.answer.specs.Answer.{numberOf}
-use Rattle.answer.specs.Number.{isFinite, checkNumber}
 use Rattle.arithmetic.specs.Arith.{Arith}
-use Rattle.elementary.specs.Constants.{4·0}
 use Rattle.coordinates.specs.CoordinateTransforms.{radians, toPolar, toSpherical, toCartesian, fromLonLat, toLonLat}
 use Rattle.coordinates.specs.Conversions.{checkLonLat, checkSpherical, finiteSpherical, finiteLonLat}
 use Rattle.coordinates.specs.Gnomonic.{gnomonicForward}
@@ -29,8 +26,8 @@ use Rattle.tiling.specs.FaceTriangles.{faceTriangle}
 use Rattle.tiling.specs.Index.{triangleIndex, shouldReflect}
 use Rattle.equal_area.specs.EqualArea.{computeConstants, forward, inverse}
 use Rattle.equal_area.specs.declared.equal_area.TriangleConstants.{TriangleConstants}
-use Rattle.dodecahedron.specs.Sizes.{FACE-WIDTH, SPHERE-WIDTH}
-use Rattle.dodecahedron.specs.Set.{checkSet}
+use Rattle.set.specs.Sizes.{FACE-WIDTH, SPHERE-WIDTH}
+use Rattle.set.specs.Checks.{checkBuffers, checkOrigin, checkFace, finiteFace}
 use Rattle.dodecahedron.specs.Slots.{keep, faceRun, sphereRun}
 use Rattle.dodecahedron.specs.Triangles.{faceSlot, sourceSlot, sphereSlot, faceTaken, sphereTaken}
 use Rattle.dodecahedron.specs.declared.used.Used.{Used}
@@ -41,16 +38,10 @@ use Rattle.dodecahedron.specs.declared.used.FaceWork.the-variants as fac
 use Rattle.dodecahedron.specs.declared.used.SphericalWork.{SphericalWork}
 use Rattle.dodecahedron.specs.declared.used.SphericalWork.the-variants as spherical-work
 use Rattle.dodecahedron.specs.declared.used.Place.{Place}
-use Rattle.dodecahedron.specs.declared.used.FaceAnswer.{FaceAnswer}
-use Rattle.dodecahedron.specs.declared.used.FaceAnswer.the-variants as face-answer
 use Rattle.dodecahedron.specs.declared.used.PlaceAnswer.{PlaceAnswer}
 use Rattle.dodecahedron.specs.declared.used.PlaceAnswer.the-variants as place-answer
 
 -- an answer's value, or the number of its refusal
-abbrev pub givenFace : FaceAnswer → Given Face
-givenFace (face-answer.Answered p) = answered p
-givenFace (face-answer.Refused n) = refused (numberOf n)
-
 abbrev pub givenPlace : PlaceAnswer → Given Place
 givenPlace (place-answer.Answered p) = answered p
 givenPlace (place-answer.Refused n) = refused (numberOf n)
@@ -104,23 +95,6 @@ keepSphere store u = keep SPHERE-WIDTH store (sphereSlot (u .origin) (u .index) 
 abbrev pub sphereAfter : List Float → Given Used → List Float
 sphereAfter store (refused n) = store
 sphereAfter store (answered u) = keepSphere store u
-
--- ---- the checks: "tried in table order, but each number is tried for 5 and then 6 before the next one"
-
--- 9, and 5 and 6 of "face x and y ±4"
-unfoldable pub finiteFace : Face → Given Face
-finiteFace p = refuseIf (not (isFinite (p .0 .x) && isFinite (p .0 .y))) 9 (answered p)
-
-unfoldable pub checkFace : Face → Given (Unit {0})
-checkFace p = andThen (checkNumber (p .0 .x) 4·0) (checkNumber (p .0 .y) 4·0)
-
--- 1, 2, 3
-abbrev pub checkBuffers : List Float → List Float → List Float → Given (Unit {0})
-checkBuffers frame face sphere = checkSet (length frame) (length face) (length sphere)
-
--- an origin id above 11 gives 4
-unfoldable pub checkOrigin : ℕ → Given (Unit {0})
-checkOrigin o = refuseIf (ltb 11 o) 4 passed
 
 -- a call: its checks, what it works out, and its final answer, for which 9 is tried; the slots that it uses go along
 unfoldable pub finishWith : {X Y : Type 0} → (X → Given Y) → Work X → Given (Work Y)

@@ -16,7 +16,7 @@ use Rattle.origin.specs.Quaternion.{transformQuat}
 use Rattle.origin.specs.declared.utils.Origin.{Origin}
 use Rattle.tiling.specs.FaceTriangles.{faceTriangle}
 use Rattle.crs.specs.Frame.{findVertex}
-use Rattle.dodecahedron.specs.Sizes.{FACE-WIDTH, SPHERE-WIDTH}
+use Rattle.set.specs.Sizes.{FACE-WIDTH, SPHERE-WIDTH}
 use Rattle.dodecahedron.specs.Slots.{run, filled, faceIn, sphereIn}
 use Rattle.dodecahedron.specs.declared.triangles.TriangleAnswer.{TriangleAnswer}
 use Rattle.dodecahedron.specs.declared.triangles.TriangleAnswer.the-variants as triangle

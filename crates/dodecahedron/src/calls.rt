@@ -2,15 +2,12 @@
 // looks at that, and only then writes the empty slots that it used.
 use crate::projection::forward_core;
 use crate::projection::inverse_core;
-use crate::set::check_set;
-use crate::used::FaceAnswer;
 use crate::used::FaceWork;
 use crate::used::Place;
 use crate::used::PlaceAnswer;
 use crate::used::SphericalWork;
 use crate::used::Used;
 use answer::Check;
-use answer::Refusal;
 use coordinates::conversions::LonLatAnswer;
 use coordinates::conversions::SphericalAnswer;
 use coordinates::conversions::check_lon_lat;
@@ -23,61 +20,21 @@ use coordinates::coords::Face;
 use coordinates::lonlat::LonLat;
 use coordinates::spherical::Spherical;
 use origin::origin::find_nearest_origin;
+use set::checks::FaceAnswer;
+use set::checks::check_call;
+use set::checks::check_face;
+use set::checks::finite_face;
+use set::set::check_set;
 ghost use mathlib.Core.Path.{_≡_};
 ghost use Prim.Native.Nat.{_<_};
 ghost use lib.ListN.{length};
-ghost use Rattle.answer.specs.Given.{andThen};
-ghost use Rattle.answer.specs.Answer.{givenCheck};
 ghost use Rattle.arithmetic.specs.Arith.{ieee};
 ghost use Rattle.coordinates.specs.Conversions.{givenSpherical, givenLonLat};
 ghost use Rattle.origin.specs.Origins.{ORIGINS};
-ghost use Rattle.dodecahedron.specs.Sizes.{FACE-STORE, SPHERE-STORE};
+ghost use Rattle.set.specs.Sizes.{FACE-STORE, SPHERE-STORE};
 ghost use Rattle.dodecahedron.specs.Fits.{UsedIn};
-ghost use Rattle.dodecahedron.specs.Calls.{checkOrigin, checkFace, checkBuffers, finiteFace, placed, givenFace, givenPlace, answerOf, usedOf, keepFaces, keepSphere, faceAfter, sphereAfter, forwardGiven, inverseGiven, placeGiven, unplaceGiven};
-
-// 4.
-fn check_origin(origin: u8) -> Check
-    ensures { λ r. ⌜ givenCheck r ≡ checkOrigin origin ⌝ }
-{
-    if origin > 11 {
-        return Check::Refused(Refusal::UnknownOrigin);
-    }
-    Check::Passed
-}
-
-// x, then y: each for 5 and then 6.
-fn check_face(face: Face) -> Check
-    ensures { λ r. ⌜ givenCheck r ≡ checkFace face ⌝ }
-{
-    let x = answer::check_number(face.0.x, 4.0);
-    if let Check::Refused(n) = x {
-        return Check::Refused(n);
-    }
-    answer::check_number(face.0.y, 4.0)
-}
-
-// 9, unless both numbers are finite.
-fn finite_face(face: Face) -> FaceAnswer
-    ensures { λ r. ⌜ givenFace r ≡ finiteFace face ⌝ }
-{
-    if answer::is_finite(face.0.x) {
-        if answer::is_finite(face.0.y) {
-            return FaceAnswer::Answered(face);
-        }
-    }
-    FaceAnswer::Refused(Refusal::AnswerNotFinite)
-}
-
-// 1, 2, 3, 4.
-fn check_call(frame: &[f64], face_store: &[f64], sphere_store: &[f64], origin: u8) -> Check
-    ensures { λ r. ⌜ givenCheck r ≡ andThen (checkBuffers (now (frame .entry)) (now («face_store» .entry)) (now («sphere_store» .entry))) (checkOrigin origin) ⌝ }
-{
-    let set = check_set(frame, face_store, sphere_store);
-    if let Check::Refused(n) = set {
-        return Check::Refused(n);
-    }
-    check_origin(origin)
-}
+ghost use Rattle.set.specs.Checks.{givenFace};
+ghost use Rattle.dodecahedron.specs.Calls.{placed, givenPlace, answerOf, usedOf, keepFaces, keepSphere, faceAfter, sphereAfter, forwardGiven, inverseGiven, placeGiven, unplaceGiven};
 
 // Writes the face slots that a call uses and that are empty.
 fn keep_faces(store: &mut [f64], index: usize, reflected: bool)

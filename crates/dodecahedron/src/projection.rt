@@ -26,7 +26,7 @@ ghost use Prim.Native.Nat.{_+_, _*_, _<_, _≤_};
 ghost use lib.ListN.{length};
 ghost use Rattle.arithmetic.specs.Arith.{ieee};
 ghost use Rattle.origin.specs.Origins.{ORIGINS};
-ghost use Rattle.dodecahedron.specs.Sizes.{FRAME, FACE-STORE, SPHERE-STORE};
+ghost use Rattle.set.specs.Sizes.{FRAME, FACE-STORE, SPHERE-STORE};
 ghost use Rattle.dodecahedron.specs.Calls.{rowAt, frameConstants, polarAbout, faceFor, usedFor, forwardCore, inverseCore, givenUsed, givenFaceWork, givenSphericalWork};
 ghost use Rattle.dodecahedron.specs.Fits.{usedFits, faceWorkFits, sphericalWorkFits, UsedIn};
 

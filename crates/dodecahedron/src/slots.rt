@@ -1,19 +1,19 @@
 // Marked slots in a store: a mark and six coordinates for a face triangle, nine for a sphere triangle.
-use crate::sizes::FACE_WIDTH;
-use crate::sizes::SPHERE_WIDTH;
 use coordinates::coords::Cartesian;
 use coordinates::coords::Face;
 use coordinates::coords::FaceTriangle;
 use coordinates::coords::SphericalTriangle;
 use coordinates::vec2::Vec2;
 use coordinates::vec3::Vec3;
+use set::sizes::FACE_WIDTH;
+use set::sizes::SPHERE_WIDTH;
 ghost use mathlib.Core.Path.{_≡_};
 ghost use mathlib.Core.List.{_∷_};
 ghost use Prim.Native.Nat.{_+_, _<_, _≤_};
 ghost use lib.ListN.{length};
 ghost use Rattle.elementary.specs.Constants.{1·0};
 ghost use Rattle.arithmetic.specs.Arith.{ieee};
-ghost use Rattle.dodecahedron.specs.Sizes.{FACE-SLOTS, FACE-STORE, FACE-WIDTH, SPHERE-SLOTS, SPHERE-STORE, SPHERE-WIDTH};
+ghost use Rattle.set.specs.Sizes.{FACE-SLOTS, FACE-STORE, FACE-WIDTH, SPHERE-SLOTS, SPHERE-STORE, SPHERE-WIDTH};
 ghost use Rattle.dodecahedron.specs.Slots.{filled, put, keep, faceRun, faceIn, sphereRun, sphereIn};
 ghost use Rattle.dodecahedron.specs.Calls.{keepFace};
 

@@ -1,7 +1,5 @@
 // The triangles that a call takes: a filled slot as it stands, and for an empty one the triangle that
 // is built for it. Nothing is written here.
-use crate::sizes::FACE_WIDTH;
-use crate::sizes::SPHERE_WIDTH;
 use crate::slots::is_filled;
 use answer::Refusal;
 use coordinates::base::Radians;
@@ -14,12 +12,14 @@ use coordinates::polar::Polar;
 use crs::frame::VertexAnswer;
 use origin::quaternion::transform_quat;
 use origin::utils::Origin;
+use set::sizes::FACE_WIDTH;
+use set::sizes::SPHERE_WIDTH;
 ghost use mathlib.Core.Path.{_≡_};
 ghost use Prim.Native.Nat.{_<_};
 ghost use lib.ListN.{length};
 ghost use Rattle.arithmetic.specs.Arith.{ieee};
 ghost use Rattle.crs.specs.Frame.{givenVertex};
-ghost use Rattle.dodecahedron.specs.Sizes.{FACE-SLOTS, FACE-STORE, SPHERE-SLOTS, SPHERE-STORE};
+ghost use Rattle.set.specs.Sizes.{FACE-SLOTS, FACE-STORE, SPHERE-SLOTS, SPHERE-STORE};
 ghost use Rattle.dodecahedron.specs.Triangles.{faceSlot, sourceSlot, sphereSlot, faceTaken, cornerVertex, sphereBuilt, sphereTaken, givenTriangle};
 
 pub enum TriangleAnswer {

@@ -44,11 +44,6 @@ pub struct Place {
     pub face: Face,
 }
 
-pub enum FaceAnswer {
-    Answered(Face),
-    Refused(Refusal),
-}
-
 pub enum PlaceAnswer {
     Answered(Place),
     Refused(Refusal),

@@ -6,21 +6,23 @@
 // numbers is lent as a reference to an array of two, in C a pointer: it has no length to be wrong.
 // The caller sees to it that a pointer is not null, that so many numbers stand there, and that no
 // two that are lent overlap.
+pub mod calls;
+
 use coordinates::base::Degrees;
 use coordinates::base::Radians;
 use coordinates::conversions::LonLatAnswer;
 use coordinates::conversions::SphericalAnswer;
 use coordinates::lonlat::LonLat;
 use coordinates::spherical::Spherical;
-use dodecahedron::open::OpenAnswer;
 use origin::origin::OriginAnswer;
+use set::open::OpenAnswer;
 ghost use mathlib.Core.Path.{_≡_};
 ghost use Rattle.arithmetic.specs.Arith.{ieee};
 ghost use Rattle.coordinates.specs.Conversions.{fromLonLatGiven, toLonLatGiven};
 ghost use Rattle.origin.specs.Origins.{ORIGINS};
 ghost use Rattle.origin.specs.Nearest.{nearestGiven};
-ghost use Rattle.dodecahedron.specs.Sizes.{FACE-STORE, SPHERE-STORE};
-ghost use Rattle.dodecahedron.specs.Open.{openGiven, frameAfter, clearedAfter};
+ghost use Rattle.set.specs.Sizes.{FACE-STORE, SPHERE-STORE};
+ghost use Rattle.set.specs.Open.{openGiven, frameAfter, clearedAfter};
 ghost use Rattle.exports.specs.Calls.{status, idAfter, sphericalAfter, lonLatAfter, lonLat, spherical};
 
 // Open: writes the frame and fills both stores with 0.0.
@@ -31,7 +33,7 @@ pub extern "C" fn a5_open(frame: &mut [f64], face: &mut [f64], sphere: &mut [f64
     ensures { λ _. ⌜ now (face .exit) ≡ clearedAfter (openGiven ieee ORIGINS (now (frame .entry)) (now (face .entry)) (now (sphere .entry))) FACE-STORE (now (face .entry)) ⌝ }
     ensures { λ _. ⌜ now (sphere .exit) ≡ clearedAfter (openGiven ieee ORIGINS (now (frame .entry)) (now (face .entry)) (now (sphere .entry))) SPHERE-STORE (now (sphere .entry)) ⌝ }
 {
-    let given = dodecahedron::open::open(frame, face, sphere);
+    let given = set::open::open(frame, face, sphere);
     match given {
         OpenAnswer::Opened => 0,
         OpenAnswer::Refused(n) => answer::number(n),

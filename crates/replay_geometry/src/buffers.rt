@@ -1,12 +1,12 @@
 // Open on buffers of any length, and the rows of a buffer that it has written.
 use crate::tables::NO_SUCH_PLACE;
-use dodecahedron::open::OpenAnswer;
-use dodecahedron::open::open;
 use replay::outcome::Outcome;
 use replay::outcome::refused;
 use replay::outcome::three;
 use replay::pattern::bits;
 use replay::record::word;
+use set::open::OpenAnswer;
+use set::open::open;
 ghost use mathlib.Core.Path.{_≡_};
 ghost use Prim.Native.Nat.{_≤_};
 ghost use Rattle.replay_geometry.specs.Foreign.{AllForeign};

@@ -7,12 +7,12 @@ mod buffers;
 mod tables;
 
 use crate::buffers::FOREIGN;
-use dodecahedron::open::open;
 use replay::outcome::Outcome;
 use replay::record;
 use replay::record::Next;
 use replay::report;
 use replay::tally;
+use set::open::open;
 
 // The outcome of the function with this number, on an opened set.
 fn outcome(

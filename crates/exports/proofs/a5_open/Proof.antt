@@ -1,7 +1,7 @@
 -- `a5_open` meets its contract. Assumes nothing.
 use mathlib.Core.Path.{sym, ap, _∙_}
 use borrow.Author.Needs.{needs}
-use Rattle.dodecahedron.specs.Open.{givenOpen}
+use Rattle.set.specs.Open.{givenOpen}
 use Rattle.exports.specs.Calls.{status}
 use Rattle.exports.proofs.a5_open.Statement.{statement}
 use Rattle.exports.proofs.a5_open.Tie as tie

@@ -4,7 +4,8 @@ use borrow.Author.Needs.{needs}
 use Rattle.answer.specs.Answer.{givenCheck}
 use Rattle.arithmetic.specs.Arith.{ieee}
 use Rattle.origin.specs.Origins.{ORIGINS}
-use Rattle.dodecahedron.specs.Calls.{givenFace, givenFaceWork}
+use Rattle.set.specs.Checks.{givenFace}
+use Rattle.dodecahedron.specs.Calls.{givenFaceWork}
 use Rattle.dodecahedron.specs.Fits.{faceWorkFits}
 use Rattle.dodecahedron.proofs.Ended.{set-fits, first-refused, second-refused, core-refused, answer-refused, done, forward-is}
 use Rattle.dodecahedron.proofs.calls.forward.Statement.{statement}

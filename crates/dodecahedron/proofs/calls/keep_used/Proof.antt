@@ -2,7 +2,7 @@
 use mathlib.Core.Path.{_≡_, _∙_, ap}
 use borrow.Author.Needs.{needs}
 use Prim.Native.Nat.{ℕ}
-use Rattle.dodecahedron.specs.Sizes.{SPHERE-WIDTH}
+use Rattle.set.specs.Sizes.{SPHERE-WIDTH}
 use Rattle.dodecahedron.specs.Slots.{keep, sphereRun}
 use Rattle.dodecahedron.specs.Triangles.{sphereSlot}
 use Rattle.dodecahedron.specs.Calls.{keepSphere}

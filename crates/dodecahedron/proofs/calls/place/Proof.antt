@@ -8,7 +8,7 @@ use Rattle.origin.specs.Origins.{ORIGINS}
 use Rattle.origin.proofs.LowestNearest.{nearest-is}
 use Rattle.dodecahedron.specs.Calls.{givenPlace, givenFaceWork}
 use Rattle.dodecahedron.specs.Fits.{faceWorkFits}
-use Rattle.dodecahedron.proofs.Lengths.{set-passed}
+use Rattle.set.proofs.Lengths.{set-passed}
 use Rattle.dodecahedron.proofs.Ended.{first-refused, second-refused, core-refused, answer-refused, done, place-is}
 use Rattle.dodecahedron.proofs.calls.place.Statement.{statement}
 use Rattle.dodecahedron.proofs.calls.place.Tie as tie

@@ -1,0 +1,16 @@
+-- `checks::check_origin` meets its contract. Assumes nothing.
+use borrow.Author.Tests.{lt-ltb, le-ltb}
+use Rattle.set.specs.Checks.{checkOrigin}
+use Rattle.set.proofs.checks.check_origin.Statement.{statement}
+use Rattle.set.proofs.checks.check_origin.Tie as tie
+
+returns : tie.Need-returns
+unfolding checkOrigin
+returns c = simp (lt-ltb _ _ (c .if1 .taken))
+
+returns-2 : tie.Need-returns-2
+unfolding checkOrigin
+returns-2 c = simp (le-ltb _ _ (c .if1 .left))
+
+pub check-origin-spec : {M : Type 1} → statement M
+check-origin-spec = tie.close (tie.spec returns returns-2)

@@ -1,0 +1,5 @@
+-- The set, open and the checks of the calls: document 01, "Calls and their numbers". Definitions only.
+pub mod Sizes
+pub mod Set
+pub mod Open
+pub mod Checks
