@@ -15,10 +15,14 @@ fn same(what: &str, ours: &[f64], rust: &[f64]) {
 
 // The Rust keeps its rows to itself. It hands back the row near a point, and rows 0, 32 and 12 as a triangle: so each of
 // the 62 rows is one of the Rust's 62, and those three stand in their places.
-fn frames(ours: &mut Ours) {
-    ours.open();
+fn frames(ours: &Ours) {
     let mut crs = CRS::new().expect("the Rust has 62 rows");
-    let rows: Vec<[f64; 3]> = ours.frame.chunks(3).map(|r| [r[0], r[1], r[2]]).collect();
+    let rows: Vec<[f64; 3]> = ours
+        .set
+        .frame
+        .chunks(3)
+        .map(|r| [r[0], r[1], r[2]])
+        .collect();
     for row in &rows {
         let point = Cartesian::new(row[0], row[1], row[2]);
         let vertex = crs.get_vertex(point).expect("the Rust has the row");
@@ -39,11 +43,21 @@ fn frames(ours: &mut Ours) {
 }
 
 pub fn check(degrees: &[[f64; 2]], radians: &[[f64; 2]]) {
-    let (mut ours, mut rust) = (Ours::new(), Stepped);
-    frames(&mut ours);
+    let (mut ours, mut rust) = (Ours::new(), Stepped::new());
+    frames(&ours);
     for &[longitude, latitude] in degrees {
         let to = ours.from_lon_lat(longitude, latitude);
         same("from_lon_lat", &to, &rust.from_lon_lat(longitude, latitude));
+        let (place, theirs) = (
+            ours.place(longitude, latitude),
+            rust.place(longitude, latitude),
+        );
+        assert_eq!(
+            place.origin, theirs.origin,
+            "place of {longitude}, {latitude}"
+        );
+        same("place", &place.face, &theirs.face);
+        same("unplace", &ours.unplace(place), &rust.unplace(place));
     }
     for &[theta, phi] in radians {
         let id = ours.nearest(theta, phi);

@@ -6,7 +6,7 @@ mod forms;
 #[path = "../../oracle/common/generator.rs"]
 mod generator;
 
-use forms::{Form, Ours, Plain, Stepped};
+use forms::{Form, Ours, Place, Plain, Stepped};
 use generator::Generator;
 use std::hint::black_box;
 use std::time::Instant;
@@ -15,6 +15,15 @@ use std::time::Instant;
 const POINTS: usize = 5000;
 const A_RUN: usize = 250;
 const RUNS: usize = 401;
+
+const CALLS: [&str; 6] = [
+    "open",
+    "nearest",
+    "from_lon_lat",
+    "to_lon_lat",
+    "place",
+    "unplace",
+];
 
 // Longitude and latitude of points that lie evenly over the sphere.
 fn points() -> Vec<[f64; 2]> {
@@ -34,8 +43,20 @@ fn time(calls: usize, run: impl FnOnce()) -> f64 {
     start.elapsed().as_nanos() as f64 / calls as f64
 }
 
-// One run of each call: open once; nearest, from_lon_lat and to_lon_lat at each of the points.
-fn run(form: &mut impl Form, degrees: &[[f64; 2]], radians: &[[f64; 2]]) -> [f64; 4] {
+// The same points in each call's own terms.
+struct Points {
+    degrees: Vec<[f64; 2]>,
+    radians: Vec<[f64; 2]>,
+    places: Vec<Place>,
+}
+
+// One run of each call at the points from a number on.
+fn run(form: &mut impl Form, points: &Points, at: usize) -> [f64; CALLS.len()] {
+    let (degrees, radians) = (
+        &points.degrees[at..at + A_RUN],
+        &points.radians[at..at + A_RUN],
+    );
+    let places = &points.places[at..at + A_RUN];
     let open = time(1, || form.open());
     let nearest = time(A_RUN, || {
         for p in black_box(radians) {
@@ -52,7 +73,17 @@ fn run(form: &mut impl Form, degrees: &[[f64; 2]], radians: &[[f64; 2]]) -> [f64
             black_box(form.to_lon_lat(p[0], p[1]));
         }
     });
-    [open, nearest, from_lon_lat, to_lon_lat]
+    let place = time(A_RUN, || {
+        for p in black_box(degrees) {
+            black_box(form.place(p[0], p[1]));
+        }
+    });
+    let unplace = time(A_RUN, || {
+        for p in black_box(places) {
+            black_box(form.unplace(*p));
+        }
+    });
+    [open, nearest, from_lon_lat, to_lon_lat, place, unplace]
 }
 
 fn median(mut times: Vec<f64>) -> f64 {
@@ -60,37 +91,54 @@ fn median(mut times: Vec<f64>) -> f64 {
     times[times.len() / 2]
 }
 
+// A set is used once every point was placed on it.
+fn use_set(form: &mut impl Form, points: &Points) {
+    for p in &points.degrees {
+        black_box(form.place(p[0], p[1]));
+    }
+}
+
 // For each form, the runs of each call. The forms take turns, and each round begins with another.
-fn interleaved(degrees: &[[f64; 2]], radians: &[[f64; 2]]) -> [Vec<[f64; 4]>; 3] {
+fn interleaved(points: &Points) -> [Vec<[f64; CALLS.len()]>; 3] {
     let mut times = [const { Vec::new() }; 3];
-    let (mut ours, mut stepped, mut plain) = (Ours::new(), Stepped, Plain);
+    let (mut ours, mut stepped, mut plain) = (Ours::new(), Stepped::new(), Plain::new());
+    use_set(&mut ours, points);
+    use_set(&mut stepped, points);
+    use_set(&mut plain, points);
     for turn in 0..3 * RUNS {
         let round = turn / 3;
         let at = round * A_RUN % POINTS;
-        let (degrees, radians) = (&degrees[at..at + A_RUN], &radians[at..at + A_RUN]);
         let form = (turn + round) % 3;
         times[form].push(match form {
-            0 => run(&mut ours, degrees, radians),
-            1 => run(&mut stepped, degrees, radians),
-            _ => run(&mut plain, degrees, radians),
+            0 => run(&mut ours, points, at),
+            1 => run(&mut stepped, points, at),
+            _ => run(&mut plain, points, at),
         });
     }
     times
 }
 
-fn main() {
-    let degrees = points();
+fn in_all_terms(degrees: Vec<[f64; 2]>) -> Points {
     let mut library = Ours::new();
-    let place = |p: &[f64; 2]| library.from_lon_lat(p[0], p[1]);
-    let radians: Vec<[f64; 2]> = degrees.iter().map(place).collect();
-    agree::check(&degrees, &radians);
-    let times = interleaved(&degrees, &radians);
+    let radians = degrees
+        .iter()
+        .map(|p| library.from_lon_lat(p[0], p[1]))
+        .collect();
+    let places = degrees.iter().map(|p| library.place(p[0], p[1])).collect();
+    Points {
+        degrees,
+        radians,
+        places,
+    }
+}
+
+fn main() {
+    let points = in_all_terms(points());
+    agree::check(&points.degrees, &points.radians);
+    let times = interleaved(&points);
     println!("ns a call: medians of {RUNS} interleaved runs");
     println!("call             ours  stepped    plain  ours/stepped  ours/plain");
-    for (call, name) in ["open", "nearest", "from_lon_lat", "to_lon_lat"]
-        .iter()
-        .enumerate()
-    {
+    for (call, name) in CALLS.iter().enumerate() {
         let [ours, stepped, plain] =
             [0, 1, 2].map(|form| median(times[form].iter().map(|run| run[call]).collect()));
         println!(

@@ -5,6 +5,7 @@ pub mod Turn
 pub mod Mask
 pub mod Lead
 pub mod Round
+pub mod Carried
 pub mod RootBits
 pub mod Quarters
 pub mod Angles

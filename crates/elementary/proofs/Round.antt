@@ -6,7 +6,7 @@ use native.Mathlib.Nat.{mul-lt-mul-of-pos-right, lt-of-mul-lt-mul-right, pow-suc
 use native.Mathlib.Numerals.{add-one}
 use native.Mathlib.Omega.{arith}
 use mathlib.Core.Bool.{Bool, true, false, not, cond}
-use lib.Dec.{T, leb, leb→le, nleb→lt}
+use lib.Dec.{T}
 use lib.Pow.{pow-pos}
 use Rattle.arithmetic.specs.Sqrt.{nearestRoot}
 use Rattle.arithmetic.proofs.Root.{Floor, lt-of-squares, rounds-up, rounds-down}
@@ -49,15 +49,6 @@ module _ (n q y r : ℕ) (some : 0 < r) (most : r ≤ 2 ^ 53) (power : (j : ℕ)
       }
   step false h k = record { power = power; most = most; square = zero-square n q y r square; above = zero-above n q y r square (k tt) some }
 
--- what `digit` and `reduced` give
-pub kept-le : (b : Bool) (r s : ℕ) → s ≡ cond b r 0 → s ≤ r
-kept-le true r s e = omega arith
-kept-le false r s e = omega arith
-
-pub reduced-le : (b : Bool) (y t d : ℕ) → d ≡ cond b (y - t) y → d ≤ y
-reduced-le true y t d e = omega arith
-reduced-le false y t d e = omega arith
-
 module _ (n q y w : ℕ) (f : Found n q y w) where
   pub root-lt : n < 2 ^ 106 → q < 2 ^ 53
   root-lt small = lt-of-squares q (2 ^ 53) (go (f .square))
@@ -78,14 +69,15 @@ module _ (n q y w : ℕ) (f : Found n q y w) where
     abbrev t : ℕ
     t = 2 * q + r
 
-    pub next : (s d : ℕ) → s ≡ cond (leb t y) r 0 → d ≡ cond (leb t y) (y - t) y → Found n (q + s) (2 * d) r
-    next s d i j =
+    pub next : (b : Bool) → (T b → t ≤ y) → (T (not b) → y < t) → Found n (q + cond b r 0) (2 * cond b (y - t) y) r
+    next =
         let h = halved (f .power .0) w (f .power .1) more in
         let e = h .0 in
-        rw (i, j)
-        (step n q y r (omega arith) (let m = f .most in omega arith) (h .1) (subst (λ (p : ℕ). q * q * 2 + y * p ≡ 2 * n) e (f .square))
+        step n q y r (omega arith) (let m = f .most in omega arith) (h .1) (subst (λ (p : ℕ). q * q * 2 + y * p ≡ 2 * n) e (f .square))
         (subst (λ (p : ℕ). n < (q + p) * (q + p)) e (f .above))
-        (leb t y) (leb→le t y) (nleb→lt t y))
+
+    pub even : w ≡ 2 * r
+    even = halved (f .power .0) w (f .power .1) more .0
 
   -- no digit is left
   module _ (over : w ≤ 1) (small : n < 2 ^ 106) where

@@ -64,26 +64,25 @@ fn digit(y: u64, t: u64, r: u64) -> u64
     r & std::num::wrapping_sub_u64(d >> 63, 1)
 }
 
-// The whole number nearest to the root of a * 2^52. q holds the digits found, w is the weight of the
-// last of them, and y is twice what q's square leaves of a * 2^52, in units of w, so that y stays
-// below 2^56 and one word is enough.
+// The whole number nearest to the root of a * 2^52. With q for the digits found and r for the weight
+// of the next, t is 4 * q + 2 * r, and y is four times what q's square leaves of a * 2^52, in units of
+// 2 * r, so that y stays below 2^57 and one word is enough. The next digit is 1 where y is at least t;
+// t itself is carried, so that a round waits for one comparison and two additions.
 fn nearest_root(a: u64) -> u64
     requires { ⌜ a < 2 ^ 54 ⌝ }
     ensures { λ r. ⌜ r ≡ nearestRoot 53 (a * 2 ^ 52) ⌝ }
 {
-    let mut q: u64 = 0;
-    let mut y = a;
-    let mut w: u64 = 0x20_0000_0000_0000;
-    while w > 1 {
-        let r = w / 2;
-        let t = 2 * q + r;
-        let s = digit(y, t, r);
+    let mut t: u64 = 0x20_0000_0000_0000;
+    let mut y = 2 * a;
+    let mut r: u64 = 0x10_0000_0000_0000;
+    while r > 0 {
+        let s = digit(y, t, 4 * r);
         y = 2 * reduced(y, t);
-        q = q + s;
-        w = r;
+        t = t - r + s;
+        r = r / 2;
     }
-    // where the root lies beyond q + 1/2; it never lies on it
-    if 2 * q < y { q + 1 } else { q }
+    // t is 4 * q + 1: where the root lies beyond q + 1/2; it never lies on it
+    if t < y { t / 4 + 1 } else { t / 4 }
 }
 
 // The square root: of a finite x above zero the value nearest to its root, of a zero or +infinity x

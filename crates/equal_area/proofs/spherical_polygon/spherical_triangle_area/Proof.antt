@@ -6,4 +6,4 @@ use Rattle.equal_area.proofs.spherical_polygon.spherical_triangle_area.
 
 pub spherical-triangle-area-spec : {M : Type 1} → statement M
 unfolding sphericalTriangleArea ofBits
-spherical-triangle-area-spec = tie.close (tie.spec (λ c κs. tt) (λ c κs. tt) (λ c κs. tt) (λ c κs. tt) (λ c κs. tt) (λ c. rw (c .atan2 .ensures, c .before .triple-product .ensures, c .before .before .dot3 .ensures, c .before .before .before .dot2 .ensures, c .before .before .before .before .dot .ensures)))
+spherical-triangle-area-spec = tie.close (tie.spec (λ c κs. tt) (λ c κs. tt) (λ c κs. tt) (λ c κs. tt) (λ c κs. tt) (λ c. rw (c .half-area .ensures, c .before .triple-product .ensures, c .before .before .dot3 .ensures, c .before .before .before .dot2 .ensures, c .before .before .before .before .dot .ensures)))
