@@ -6,7 +6,7 @@ use Rattle.answer.specs.Answer.{givenCheck}
 use Rattle.arithmetic.specs.Arith.{ieee}
 use Rattle.origin.specs.Origins.{ORIGINS}
 use Rattle.origin.proofs.LowestNearest.{nearest-is}
-use Rattle.dodecahedron.specs.Calls.{givenPlace, givenFaceWork}
+use Rattle.dodecahedron.specs.Calls.{placed, givenPlace, givenFaceWork}
 use Rattle.dodecahedron.specs.Fits.{faceWorkFits}
 use Rattle.set.proofs.Lengths.{set-passed}
 use Rattle.dodecahedron.proofs.Ended.{first-refused, second-refused, core-refused, answer-refused, done, place-is}
@@ -31,7 +31,7 @@ forward-core-requires c κs =
 returns-3 : tie.Need-returns-3
 returns-3 c =
     let a = c .before .before .before .before .before .before .before .before .before .before .before .before .before .before .before .before .before .before .before .before .before .before .before .args in
-    rw ((place-is ieee ORIGINS (a .frame .now) (a .face-store .now) (a .sphere-store .now) (c .before .before .before .before .before .before .before .before .before .before .find-nearest-origin .result) (a .lonlat) (c .before .before .before .before .before .before .before .before .before .before .before .from-lon-lat .result) (c .before .before .before .before .before .before .before .before .before .before .before .from-lon-lat .ensures) (c .before .before .before .before .before .before .before .before .before .before .find-nearest-origin .ensures)) ∙ answer-refused _ _ _ _ _ _ (sym (c .before .before .before .before .before .before .before .before .before .before .before .before .before .before .before .before .before .check-set .ensures) ∙ ap givenCheck (c .before .before .before .before .before .before .before .before .before .before .before .before .before .before .before .enum-told .given .1)) (sym (c .before .before .before .before .before .before .before .before .before .before .before .before .before .before .check-lon-lat .ensures) ∙ ap givenCheck (c .before .before .before .before .before .before .before .before .before .before .before .before .enum-told2 .given .1)) (sym (c .before .before .before .before .before .before .before .forward-core .ensures .0) ∙ ap givenFaceWork (c .before .before .before .before .before .done .given .1)) (sym (c .before .before .before .placed .ensures) ∙ ap givenPlace (c .before .answer .given .1))) (refl, (refl, refl))
+    rw ((place-is ieee ORIGINS (a .frame .now) (a .face-store .now) (a .sphere-store .now) (c .before .before .before .before .before .before .before .before .before .before .find-nearest-origin .result) (a .lonlat) (c .before .before .before .before .before .before .before .before .before .before .before .from-lon-lat .result) (c .before .before .before .before .before .before .before .before .before .before .before .from-lon-lat .ensures) (c .before .before .before .before .before .before .before .before .before .before .find-nearest-origin .ensures)) ∙ answer-refused _ _ _ (placed (c .before .before .before .before .before .before .before .before .before .before .find-nearest-origin .result)) _ _ (sym (c .before .before .before .before .before .before .before .before .before .before .before .before .before .before .before .before .before .check-set .ensures) ∙ ap givenCheck (c .before .before .before .before .before .before .before .before .before .before .before .before .before .before .before .enum-told .given .1)) (sym (c .before .before .before .before .before .before .before .before .before .before .before .before .before .before .check-lon-lat .ensures) ∙ ap givenCheck (c .before .before .before .before .before .before .before .before .before .before .before .before .enum-told2 .given .1)) (sym (c .before .before .before .before .before .before .before .forward-core .ensures .0) ∙ ap givenFaceWork (c .before .before .before .before .before .done .given .1)) (sym (c .before .before .before .placed .ensures) ∙ ap givenPlace (c .before .answer .given .1))) (refl, (refl, refl))
 
 keep-used-requires : tie.Need-keep-used-requires
 keep-used-requires c κs =
@@ -41,7 +41,7 @@ keep-used-requires c κs =
 returns-4 : tie.Need-returns-4
 returns-4 c =
     let a = c .before .before .before .before .before .before .before .before .before .before .before .before .before .before .before .before .before .before .before .before .before .before .before .before .before .before .before .before .before .args in
-    rw ((place-is ieee ORIGINS (a .frame .now) (a .face-store .now) (a .sphere-store .now) (c .before .before .before .before .before .before .before .before .before .before .before .before .before .before .before .before .find-nearest-origin .result) (a .lonlat) (c .before .before .before .before .before .before .before .before .before .before .before .before .before .before .before .before .before .from-lon-lat .result) (c .before .before .before .before .before .before .before .before .before .before .before .before .before .before .before .before .before .from-lon-lat .ensures) (c .before .before .before .before .before .before .before .before .before .before .before .before .before .before .before .before .find-nearest-origin .ensures)) ∙ done _ _ _ _ _ _ (sym (c .before .before .before .before .before .before .before .before .before .before .before .before .before .before .before .before .before .before .before .before .before .before .before .check-set .ensures) ∙ ap givenCheck (c .before .before .before .before .before .before .before .before .before .before .before .before .before .before .before .before .before .before .before .before .before .enum-told .given .1)) (sym (c .before .before .before .before .before .before .before .before .before .before .before .before .before .before .before .before .before .before .before .before .check-lon-lat .ensures) ∙ ap givenCheck (c .before .before .before .before .before .before .before .before .before .before .before .before .before .before .before .before .before .before .enum-told2 .given .1)) (sym (c .before .before .before .before .before .before .before .before .before .before .before .before .before .forward-core .ensures .0) ∙ ap givenFaceWork (c .before .before .before .before .before .before .before .before .before .before .before .done .given .1)) (sym (c .before .before .before .before .before .before .before .before .before .placed .ensures) ∙ ap givenPlace (c .before .before .before .before .before .before .before .enum-told3 .given .1))) (ap givenPlace (c .before .before .before .before .before .before .before .enum-told3 .given .1), (c .before .before .before .before .keep-used .ensures .0, c .before .before .before .before .keep-used .ensures .1))
+    rw ((place-is ieee ORIGINS (a .frame .now) (a .face-store .now) (a .sphere-store .now) (c .before .before .before .before .before .before .before .before .before .before .before .before .before .before .before .before .find-nearest-origin .result) (a .lonlat) (c .before .before .before .before .before .before .before .before .before .before .before .before .before .before .before .before .before .from-lon-lat .result) (c .before .before .before .before .before .before .before .before .before .before .before .before .before .before .before .before .before .from-lon-lat .ensures) (c .before .before .before .before .before .before .before .before .before .before .before .before .before .before .before .before .find-nearest-origin .ensures)) ∙ done _ _ _ (placed (c .before .before .before .before .before .before .before .before .before .before .before .before .before .before .before .before .find-nearest-origin .result)) _ _ (sym (c .before .before .before .before .before .before .before .before .before .before .before .before .before .before .before .before .before .before .before .before .before .before .before .check-set .ensures) ∙ ap givenCheck (c .before .before .before .before .before .before .before .before .before .before .before .before .before .before .before .before .before .before .before .before .before .enum-told .given .1)) (sym (c .before .before .before .before .before .before .before .before .before .before .before .before .before .before .before .before .before .before .before .before .check-lon-lat .ensures) ∙ ap givenCheck (c .before .before .before .before .before .before .before .before .before .before .before .before .before .before .before .before .before .before .enum-told2 .given .1)) (sym (c .before .before .before .before .before .before .before .before .before .before .before .before .before .forward-core .ensures .0) ∙ ap givenFaceWork (c .before .before .before .before .before .before .before .before .before .before .before .done .given .1)) (sym (c .before .before .before .before .before .before .before .before .before .placed .ensures) ∙ ap givenPlace (c .before .before .before .before .before .before .before .enum-told3 .given .1))) (ap givenPlace (c .before .before .before .before .before .before .before .enum-told3 .given .1), (c .before .before .before .before .keep-used .ensures .0, c .before .before .before .before .keep-used .ensures .1))
 
 returns-5 : tie.Need-returns-5
 returns-5 c =
