@@ -1,0 +1,2 @@
+-- Show and its companion: document 01, "Calls and their numbers". Definitions only.
+pub mod Show

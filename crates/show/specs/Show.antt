@@ -1,0 +1,62 @@
+-- Document 01, "Calls and their numbers": "Show takes the two stores, a store kind and a slot number. It hands back the coordinates as a part of whichever store was named, or an empty
+-- part at the face store's start if the slot is empty or the call refused; a companion call on the same arguments answers filled, empty or the refusal." Definitions only.
+use Prim.Native.Nat.{ℕ, _+_, _-_, _*_}
+use mathlib.Core.Bool.{Bool, true, false, not}
+use mathlib.Core.List.{List, []}
+use lib.Dec.{eqb, leb}
+use lib.ListN.{length}
+use lib.Ieee.{Float}
+use Rattle.answer.specs.Given.{Given, answered, refused, refuseIf}
+use Rattle.answer.specs.Answer.{numberOf}
+use Rattle.set.specs.Sizes.{FACE-SLOTS, FACE-WIDTH, FACE-STORE, SPHERE-SLOTS, SPHERE-WIDTH, SPHERE-STORE}
+use Rattle.dodecahedron.specs.Slots.{run, filled}
+use Rattle.show.specs.declared.StoreKind.{StoreKind}
+use Rattle.show.specs.declared.StoreKind.the-variants as kind
+use Rattle.show.specs.declared.SlotState.{SlotState}
+use Rattle.show.specs.declared.SlotState.the-variants as state
+
+-- answered with whether the slot is filled
+abbrev pub givenState : SlotState → Given Bool
+givenState state.Filled = answered true
+givenState state.Empty = answered false
+givenState (state.Refused n) = refused (numberOf n)
+
+-- ---- the store named
+
+abbrev pub named : {X : Type 0} → StoreKind → X → X → X
+named kind.Face face sphere = face
+named kind.Sphere face sphere = sphere
+
+abbrev pub slotsIn : StoreKind → ℕ
+slotsIn s = named s FACE-SLOTS SPHERE-SLOTS
+
+abbrev pub widthIn : StoreKind → ℕ
+widthIn s = named s FACE-WIDTH SPHERE-WIDTH
+
+-- ---- the companion: 2, 3, and 10 for "slot 30 or more (face), 240 or more (sphere)"
+unfoldable pub slotGiven : List Float → List Float → StoreKind → ℕ → Given Bool
+slotGiven face sphere s k =
+    refuseIf (not (eqb (length face) FACE-STORE)) 2
+    (refuseIf (not (eqb (length sphere) SPHERE-STORE)) 3
+    (refuseIf (leb (slotsIn s) k) 10
+    (answered (filled (named s face sphere) (k * widthIn s)))))
+
+-- ---- show, by what the companion gives
+
+-- the part's numbers: "six or nine coordinates", those behind the slot's mark
+abbrev pub whereFilled : Given Bool → List Float → List Float
+whereFilled (refused n) part = []
+whereFilled (answered false) part = []
+whereFilled (answered true) part = part
+
+unfoldable pub partShown : List Float → List Float → StoreKind → ℕ → List Float
+partShown face sphere s k = whereFilled (slotGiven face sphere s k) (run (named s face sphere) (k * widthIn s + 1) (widthIn s - 1))
+
+-- where it lies: a part from element i of a store on starts 8 bytes further for each element before it
+abbrev pub placeIn : ℕ × ℕ → ℕ → ℕ × ℕ
+placeIn store i = (store .0, i * 8 + store .1)
+
+abbrev pub placeShown : Given Bool → ℕ × ℕ → ℕ × ℕ → StoreKind → ℕ → ℕ × ℕ
+placeShown (refused n) face sphere s k = placeIn face 0
+placeShown (answered false) face sphere s k = placeIn face 0
+placeShown (answered true) face sphere s k = placeIn (named s face sphere) (k * widthIn s + 1)

@@ -1,0 +1,97 @@
+// Show and its companion: what a slot of a set's stores holds. Both only read.
+use answer::Refusal;
+use set::sizes::FACE_SLOTS;
+use set::sizes::FACE_STORE;
+use set::sizes::FACE_WIDTH;
+use set::sizes::SPHERE_SLOTS;
+use set::sizes::SPHERE_STORE;
+use set::sizes::SPHERE_WIDTH;
+ghost use mathlib.Core.Path.{_≡_};
+ghost use Prim.Native.Nat.{_+_, _-_, _<_, _≤_};
+ghost use lib.ListN.{length};
+ghost use denote.Ref.{ptr};
+ghost use Rattle.answer.specs.Given.{answered};
+ghost use Rattle.dodecahedron.specs.Slots.{run, filled};
+ghost use Rattle.show.specs.Show.{givenState, slotGiven, partShown, placeShown, placeIn};
+
+pub enum StoreKind {
+    Face,
+    Sphere,
+}
+
+pub enum SlotState {
+    Filled,
+    Empty,
+    Refused(Refusal),
+}
+
+// The state by the mark at the start of a slot.
+fn state_at(store: &[f64], at: usize) -> SlotState
+    requires { ⌜ at < length (now store) ⌝ }
+    ensures { λ r. ⌜ givenState r ≡ answered (filled (now (store .entry)) at) ⌝ }
+{
+    match store[at] == 1.0 {
+        true => SlotState::Filled,
+        false => SlotState::Empty,
+    }
+}
+
+// The companion: 2, 3, 10, and then whether the slot is filled.
+pub fn slot_state(
+    face_store: &[f64],
+    sphere_store: &[f64],
+    kind: StoreKind,
+    slot: usize,
+) -> SlotState
+    ensures { λ r. ⌜ givenState r ≡ slotGiven (now («face_store» .entry)) (now («sphere_store» .entry)) kind slot ⌝ }
+{
+    if face_store.len() != FACE_STORE {
+        return SlotState::Refused(Refusal::FaceStoreLength);
+    }
+    if sphere_store.len() != SPHERE_STORE {
+        return SlotState::Refused(Refusal::SphereStoreLength);
+    }
+    match kind {
+        StoreKind::Face => {
+            if slot >= FACE_SLOTS {
+                return SlotState::Refused(Refusal::UnknownSlot);
+            }
+            state_at(face_store, slot * FACE_WIDTH)
+        }
+        StoreKind::Sphere => {
+            if slot >= SPHERE_SLOTS {
+                return SlotState::Refused(Refusal::UnknownSlot);
+            }
+            state_at(sphere_store, slot * SPHERE_WIDTH)
+        }
+    }
+}
+
+// The slot that starts at a place, without its mark.
+fn coordinates<'a>(store: &'a [f64], at: usize, width: usize) -> &'a [f64]
+    requires { ⌜ (at + width ≤ length (now store)) × (0 < width) ⌝ }
+    ensures { λ r. ⌜ (now r ≡ run (now (store .entry)) (at + 1) (width - 1)) × (ptr r ≡ placeIn (ptr (store .entry)) (at + 1)) ⌝ }
+{
+    &store[at + 1..at + width]
+}
+
+// The coordinates of a filled slot, as a part of the store named; else an empty part at the face
+// store's start.
+pub fn show<'a>(
+    face_store: &'a [f64],
+    sphere_store: &'a [f64],
+    kind: StoreKind,
+    slot: usize,
+) -> &'a [f64]
+    ensures { λ r. ⌜ now r ≡ partShown (now («face_store» .entry)) (now («sphere_store» .entry)) kind slot ⌝ }
+    ensures { λ r. ⌜ ptr r ≡ placeShown (slotGiven (now («face_store» .entry)) (now («sphere_store» .entry)) kind slot) (ptr («face_store» .entry)) (ptr («sphere_store» .entry)) kind slot ⌝ }
+{
+    match slot_state(face_store, sphere_store, kind, slot) {
+        SlotState::Filled => match kind {
+            StoreKind::Face => coordinates(face_store, slot * FACE_WIDTH, FACE_WIDTH),
+            StoreKind::Sphere => coordinates(sphere_store, slot * SPHERE_WIDTH, SPHERE_WIDTH),
+        },
+        SlotState::Empty => &face_store[0..0],
+        SlotState::Refused(_) => &face_store[0..0],
+    }
+}
