@@ -1,0 +1,87 @@
+-- One call keeps what holds of a set, by what it does to it; and so does every list of calls. Assumes nothing.
+use mathlib.Core.Path.{_≡_, refl, sym, ap, _∙_}
+use mathlib.Core.Bool.{Bool, true, false, _||_, or-assoc, or-false}
+use mathlib.Core.List.{List, [], _∷_}
+use Prim.Native.Nat.{ℕ, suc, _+_, _<_}
+use native.Mathlib.Omega.{arith}
+use lib.Dec.{eqb}
+use lib.ListN.{length}
+use lib.Ieee.{Float}
+use Rattle.answer.specs.Given.{Given, answered, refused}
+use Rattle.arithmetic.specs.Arith.{ieee}
+use Rattle.coordinates.specs.declared.coords.SphericalTriangle.{SphericalTriangle}
+use Rattle.set.specs.Sizes.{FACE-SLOTS, FACE-WIDTH, FACE-STORE, SPHERE-SLOTS, SPHERE-WIDTH, SPHERE-STORE}
+use Rattle.dodecahedron.specs.Slots.{sphereRun, keep}
+use Rattle.dodecahedron.specs.Triangles.{sphereSlot}
+use Rattle.dodecahedron.specs.Calls.{keepFace, keepFaces, keepSphere}
+use Rattle.dodecahedron.specs.declared.used.Used.{Used}
+use Rattle.histories.specs.Lists.{Buffers, Call, Effect, writes, uses, reads, effect, after, step, run}
+use Rattle.histories.specs.Since.{Slots, Since, facesAt, counted, since}
+use Rattle.histories.specs.Defined.{sphereDefined}
+use Rattle.histories.proofs.Stores.{Holds, kept-long, kept-holds}
+use Rattle.histories.proofs.Taken.{Good, fresh-good, faceCoordinates, runOf, sphereCoordinates, sphere-below, sphere-taken}
+use Rattle.histories.proofs.Uses.{Fits, effect-fits}
+
+-- a face store, of which the slots u have been used
+abbrev FaceStore : Slots → List Float → Type 0
+FaceStore u xs = (length xs ≡ FACE-STORE) × Holds FACE-WIDTH FACE-SLOTS faceCoordinates u xs
+
+face-kept : (u : Slots) (xs : List Float) → FaceStore u xs → (k : ℕ) → k < FACE-SLOTS → FaceStore (λ j. u j || eqb j k) (keepFace ieee xs k)
+unfolding keepFace
+face-kept u xs f k h = (
+  kept-long FACE-WIDTH FACE-SLOTS faceCoordinates u xs (f .0) (f .1) k h refl,
+  kept-holds FACE-WIDTH FACE-SLOTS faceCoordinates u xs (f .0) (f .1) k h refl,
+)
+
+-- the face slots of an answered call
+faces-kept : (u : Slots) (xs : List Float) → FaceStore u xs → (i : ℕ) (r : Bool) → i < 10 → FaceStore (λ k. u k || facesAt i r k) (keepFaces ieee xs i r)
+faces-kept u xs f i false h = face-kept u xs f i (omega arith)
+faces-kept u xs f i true h =
+    let a = face-kept u xs f (i + 10) (omega arith) in
+    let b = face-kept (λ j. u j || eqb j (i + 10)) (keepFace ieee xs (i + 10)) a (i + 20) (omega arith) in
+    (b .0, λ k g. rw (← or-assoc (u k) (eqb k (i + 10)) (eqb k (i + 20))) (b .1 k g))
+
+module _ (w : Since) (s : Buffers) (good : Good w s) where
+  -- the sphere slot of an answered call, which gets the triangle defined for it
+  sphere-kept : (k : ℕ) (t : SphericalTriangle) → k < SPHERE-SLOTS → sphereDefined (w .frame) k ≡ answered t
+      → (length (keep SPHERE-WIDTH (s .sphere) k (sphereRun t)) ≡ SPHERE-STORE)
+      × Holds SPHERE-WIDTH SPHERE-SLOTS (sphereCoordinates (w .frame)) (λ j. w .spheres j || eqb j k) (keep SPHERE-WIDTH (s .sphere) k (sphereRun t))
+  sphere-kept k t h e =
+      let r : sphereCoordinates (w .frame) k ≡ sphereRun t = ap runOf e in
+      let size : suc (length (sphereCoordinates (w .frame) k)) ≡ SPHERE-WIDTH = rw r in (
+        rw (← r) (kept-long SPHERE-WIDTH SPHERE-SLOTS (sphereCoordinates (w .frame)) (w .spheres) (s .sphere) (good .sphere-long) (good .sphere) k h size),
+        rw (← r) (kept-holds SPHERE-WIDTH SPHERE-SLOTS (sphereCoordinates (w .frame)) (w .spheres) (s .sphere) (good .sphere-long) (good .sphere) k h size),
+      )
+
+  uses-good : (g : Given Used) → Fits s (uses g) → Good (counted w (uses g) (after s (uses g))) (after s (uses g))
+  unfolding keepSphere
+  uses-good (refused n) fits =
+      record {
+        rows = good .rows;
+        frame = good .frame;
+        face-long = good .face-long;
+        sphere-long = good .sphere-long;
+        face = λ k h. rw (or-false (w .faces k)) (good .face k h);
+        sphere = λ k h. rw (or-false (w .spheres k)) (good .sphere k h);
+      }
+  uses-good (answered u) fits =
+      let on = fits u refl in
+      let k = sphereSlot (u .origin) (u .index) (u .reflected) in
+      let defined : sphereDefined (w .frame) k ≡ answered (u .triangle) = sym (sphere-taken w s good (u .origin) (u .index) (u .reflected) (on .origin) (on .index)) ∙ on .taken in
+      let a = faces-kept (w .faces) (s .face) (good .face-long, good .face) (u .index) (u .reflected) (on .index) in
+      let b = sphere-kept k (u .triangle) (sphere-below (u .origin) (u .index) (u .reflected) (on .origin) (on .index)) defined in
+      record { rows = good .rows; frame = good .frame; face-long = a .0; sphere-long = b .0; face = a .1; sphere = b .1 }
+
+  -- by what a call does to the set
+  after-good : (e : Effect) → Fits s e → Good (counted w e (after s e)) (after s e)
+  after-good (writes (refused n)) fits = good
+  after-good (writes (answered u)) fits = fresh-good
+  after-good (uses g) fits = uses-good g fits
+  after-good reads fits = good
+
+  step-good : (c : Call) → Good (counted w (effect s c) (step s c)) (step s c)
+  step-good c = after-good (effect s c) (effect-fits s c)
+
+pub run-good : (cs : List Call) (w : Since) (s : Buffers) → Good w s → Good (since w s cs) (run s cs)
+run-good [] w s good = good
+run-good (c ∷ cs) w s good = run-good cs (counted w (effect s c) (step s c)) (step s c) (step-good w s good c)

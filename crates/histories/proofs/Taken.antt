@@ -1,0 +1,136 @@
+-- What holds of a set after every list of calls, and that the triangles which a call then takes are those that are defined. Assumes nothing.
+use mathlib.Core.Path.{_≡_, refl, sym, ap}
+use mathlib.Core.Bool.{Bool, true, false, cond}
+use mathlib.Core.List.{List, [], _∷_}
+use Prim.Native.Nat.{ℕ, _+_, _*_, _/_, _%_, _<_}
+use native.Mathlib.Decide.{decLt}
+use native.Mathlib.Omega.{arith}
+use lib.Dec.{leb}
+use lib.ListN.{length, replicate, length-replicate}
+use lib.Ieee.{Float}
+use borrow.Author.Tests.{le-leb, lt-leb}
+use Rattle.answer.specs.Given.{Given, answered, refused}
+use Rattle.arithmetic.specs.Arith.{ieee}
+use Rattle.elementary.specs.Constants.{0·0, 1·0}
+use Rattle.coordinates.specs.declared.coords.SphericalTriangle.{SphericalTriangle}
+use Rattle.origin.specs.Origins.{ORIGINS, originAt}
+use Rattle.tiling.specs.FaceTriangles.{faceTriangle}
+use Rattle.crs.specs.Frame.{frameRows}
+use Rattle.set.specs.Sizes.{FACE-SLOTS, FACE-WIDTH, FACE-STORE, SPHERE-SLOTS, SPHERE-WIDTH, SPHERE-STORE}
+use Rattle.dodecahedron.specs.Slots.{run, filled, faceRun, faceIn, sphereRun, sphereIn}
+use Rattle.dodecahedron.specs.Triangles.{sourceSlot, sphereSlot, faceTaken, sphereBuilt, sphereTaken}
+use Rattle.histories.specs.Lists.{Buffers}
+use Rattle.histories.specs.Since.{Since, newly}
+use Rattle.histories.specs.Defined.{sphereDefined, slotAt}
+use Rattle.histories.proofs.Runs.{length-run, run-replicate}
+use Rattle.histories.proofs.Stores.{slotOf, slot-filled, slot-run, beyond-empty, Holds}
+
+-- ---- what a slot is defined to hold behind its mark
+
+abbrev pub faceCoordinates : ℕ → List Float
+faceCoordinates k = faceRun (faceTriangle ieee k)
+
+-- nothing where no triangle is defined: such a slot is never used
+abbrev pub runOf : Given SphericalTriangle → List Float
+runOf (answered t) = sphereRun t
+runOf (refused n) = []
+
+abbrev pub sphereCoordinates : List Float → ℕ → List Float
+sphereCoordinates frame k = runOf (sphereDefined frame k)
+
+-- ---- the set after every list
+
+pub record Good (w : Since) (s : Buffers) : Type 0 where
+  pub rows : w .frame ≡ frameRows ieee ORIGINS
+  pub frame : s .frame ≡ w .frame
+  pub face-long : length (s .face) ≡ FACE-STORE
+  pub sphere-long : length (s .sphere) ≡ SPHERE-STORE
+  pub face : Holds FACE-WIDTH FACE-SLOTS faceCoordinates (w .faces) (s .face)
+  pub sphere : Holds SPHERE-WIDTH SPHERE-SLOTS (sphereCoordinates (w .frame)) (w .spheres) (s .sphere)
+
+-- a newly opened set
+abbrev pub fresh : Buffers
+fresh = record { frame = frameRows ieee ORIGINS; face = replicate FACE-STORE 0·0; sphere = replicate SPHERE-STORE 0·0 }
+
+pub fresh-good : Good (newly fresh) fresh
+fresh-good =
+    record {
+      rows = refl;
+      frame = refl;
+      face-long = length-replicate FACE-STORE 0·0;
+      sphere-long = length-replicate SPHERE-STORE 0·0;
+      face = λ k h. run-replicate FACE-STORE (k * FACE-WIDTH) FACE-WIDTH 0·0 (omega arith);
+      sphere = λ k h. run-replicate SPHERE-STORE (k * SPHERE-WIDTH) SPHERE-WIDTH 0·0 (omega arith);
+    }
+
+-- ---- slot numbers
+
+pub source-below : (i : ℕ) (r : Bool) → i < 10 → sourceSlot i r < FACE-SLOTS
+source-below i true h = omega arith
+source-below i false h = omega arith
+
+pub sphere-below : (o i : ℕ) (r : Bool) → o < 12 → i < 10 → sphereSlot o i r < SPHERE-SLOTS
+sphere-below o i true g h = omega arith
+sphere-below o i false g h = omega arith
+
+-- a sphere slot's number tells its origin, its index and whether it is reflected
+pub slot-defined : (frame : List Float) (o i : ℕ) (r : Bool) → o < 12 → i < 10
+    → sphereDefined frame (sphereSlot o i r) ≡ sphereBuilt ieee frame (originAt ORIGINS o) (faceTriangle ieee (sourceSlot i r))
+unfolding sphereDefined
+slot-defined frame o i true g h =
+    let k = o * 10 + i + 120 in
+    let a : k % 10 ≡ i = omega arith in
+    let b : k % 120 / 10 ≡ o = omega arith in
+    let c : leb 120 k ≡ true = le-leb 120 k (omega arith) in
+    rw (a, b, c)
+slot-defined frame o i false g h =
+    let k = o * 10 + i in
+    let a : k % 10 ≡ i = omega arith in
+    let b : k % 120 / 10 ≡ o = omega arith in
+    let c : leb 120 k ≡ false = lt-leb 120 k (omega arith) in
+    rw (a, b, c)
+
+-- ---- what a call takes
+
+module _ (w : Since) (s : Buffers) (good : Good w s) where
+  -- the slot's number may be any
+  pub face-taken : (k : ℕ) → faceTaken ieee (s .face) k ≡ faceTriangle ieee k
+  unfolding faceTaken
+  face-taken k = by (decLt k FACE-SLOTS)
+    where
+      taken : Bool → Type 0
+      taken b = cond b (faceIn (run (s .face) (k * FACE-WIDTH + 1) 6)) (faceTriangle ieee k) ≡ faceTriangle ieee k
+
+      inside : (b : Bool) → slotAt FACE-WIDTH (s .face) k ≡ slotOf b FACE-WIDTH (faceCoordinates k) → taken (filled (s .face) (k * FACE-WIDTH))
+      inside true e = rw (slot-filled FACE-WIDTH (s .face) k (omega arith) true _ e) (ap faceIn (slot-run FACE-WIDTH (s .face) k (omega arith) 6 _ refl e))
+      inside false e = rw (slot-filled FACE-WIDTH (s .face) k (omega arith) false (faceCoordinates k) e)
+
+      by : Dec (k < FACE-SLOTS) → taken (filled (s .face) (k * FACE-WIDTH))
+      by (yes h) = inside (w .faces k) (good .face k h)
+      by (no g) = rw (beyond-empty (s .face) (k * FACE-WIDTH) (omega (arith, good .face-long)))
+
+  pub sphere-taken : (o i : ℕ) (r : Bool) → o < 12 → i < 10
+      → sphereTaken ieee (s .frame) (s .face) (s .sphere) (originAt ORIGINS o) (sphereSlot o i r) (sourceSlot i r) ≡ sphereDefined (w .frame) (sphereSlot o i r)
+  unfolding sphereTaken
+  sphere-taken o i r g h = go (w .spheres k) (good .sphere k below)
+    where
+      k : ℕ
+      k = sphereSlot o i r
+
+      below : k < SPHERE-SLOTS
+      below = sphere-below o i r g h
+
+      built : Given SphericalTriangle
+      built = sphereBuilt ieee (s .frame) (originAt ORIGINS o) (faceTaken ieee (s .face) (sourceSlot i r))
+
+      built-is : built ≡ sphereDefined (w .frame) k
+      built-is = rw (good .frame, face-taken (sourceSlot i r)) (sym (slot-defined (w .frame) o i r g h))
+
+      read : (d : Given SphericalTriangle) → slotAt SPHERE-WIDTH (s .sphere) k ≡ 1·0 ∷ runOf d → answered (sphereIn (run (s .sphere) (k * SPHERE-WIDTH + 1) 9)) ≡ d
+      read (answered t) e = ap (λ (l : List Float). answered (sphereIn l)) (slot-run SPHERE-WIDTH (s .sphere) k (omega arith) 9 _ refl e)
+      read (refused n) e = absurd (omega (arith, ap length e, length-run (s .sphere) (k * SPHERE-WIDTH) SPHERE-WIDTH (omega (arith, below, good .sphere-long))))
+
+      go : (b : Bool) → slotAt SPHERE-WIDTH (s .sphere) k ≡ slotOf b SPHERE-WIDTH (sphereCoordinates (w .frame) k)
+          → cond (filled (s .sphere) (k * SPHERE-WIDTH)) (answered (sphereIn (run (s .sphere) (k * SPHERE-WIDTH + 1) 9))) built ≡ sphereDefined (w .frame) k
+      go true e = rw (slot-filled SPHERE-WIDTH (s .sphere) k (omega arith) true _ e) (read (sphereDefined (w .frame) k) e)
+      go false e = rw (slot-filled SPHERE-WIDTH (s .sphere) k (omega arith) false (sphereCoordinates (w .frame) k) e) built-is

@@ -1,0 +1,26 @@
+-- Document 01, "Triangles and calls": "The triangle defined for a slot never depends on what a store holds". For a face slot it is `faceTriangle` of crate `tiling`; here it is for a sphere
+-- slot: "what the Rust builds, with the steps above, from the triangle defined for face slot i (20+i if reflected), i being its index, from its origin, and from the frame that the last
+-- answered open wrote". Definitions only.
+use Prim.Native.Nat.{ℕ, _*_, _/_, _%_}
+use mathlib.Core.List.{List}
+use lib.Dec.{leb}
+use lib.Ieee.{Float}
+use Rattle.answer.specs.Given.{Given}
+use Rattle.arithmetic.specs.Arith.{ieee}
+use Rattle.coordinates.specs.declared.coords.SphericalTriangle.{SphericalTriangle}
+use Rattle.origin.specs.Origins.{ORIGINS, originAt}
+use Rattle.tiling.specs.FaceTriangles.{faceTriangle}
+use Rattle.dodecahedron.specs.Slots as slots
+use Rattle.dodecahedron.specs.Triangles.{sourceSlot, sphereBuilt}
+
+-- sphere slot k, which is 10·origin + index, plus 120 if reflected; refused with 8 where a vertex has no row in the frame
+unfoldable pub sphereDefined : List Float → ℕ → Given SphericalTriangle
+sphereDefined frame k =
+    let origin = k % 120 / 10 in
+    let index = k % 10 in
+    let reflected = leb 120 k in
+    sphereBuilt ieee frame (originAt ORIGINS origin) (faceTriangle ieee (sourceSlot index reflected))
+
+-- the numbers of slot k in a store of the width w
+abbrev pub slotAt : ℕ → List Float → ℕ → List Float
+slotAt w store k = slots.run store (k * w) w

@@ -1,0 +1,6 @@
+-- Every list of calls on a set: document 01, "Triangles and calls", and demand 3. Definitions only.
+pub mod Lists
+pub mod Since
+pub mod Defined
+pub mod EveryList
+pub mod Consequences
