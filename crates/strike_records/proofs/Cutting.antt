@@ -1,0 +1,210 @@
+-- Cutting the input differently changes nothing: fed in pieces of any sizes, a session writes what document 01's definition gives for all bytes together. Assumes nothing.
+use mathlib.Core.Path.{_≡_, refl, sym, ap, _∙_}
+use mathlib.Core.Bool.{Bool, true, false, _&&_}
+use mathlib.Core.List.{List, [], _∷_, _++_, append-nil, append-assoc}
+use Prim.Native.Nat.{ℕ, zero, suc, _+_, _*_, _-_, _/_, _≤_, _<_, min}
+use native.Mathlib.Nat.{zero-add, le-trans, min-le-left, min-le-right, min-eq-left, min-eq-right}
+use native.Mathlib.Omega.{arith}
+use borrow.Author.Tests.{lt-ltb, le-ltb, ltb-true, ltb-false}
+use lib.Dec.{ltb}
+use lib.Ieee.{Float}
+use lib.ListN.{length, take, drop, getD, length-append, length-drop, List·getD-append}
+use lib.Seq.{take-append-le, drop-append-le, drop-drop}
+use Rattle.answer.specs.Given.{Given, answered, refused}
+use Rattle.arithmetic.specs.Arith.{Arith}
+use Rattle.set.specs.Open.{openGiven}
+use Rattle.strike_records.specs.Line.{LINE, refusalLine}
+use Rattle.strike_records.specs.Record.{headed}
+use Rattle.strike_records.specs.Session.{Set, MAX-RECORDS, cutOff, lineOf, recordLine, recordSet, records, session, opened, program}
+use Rattle.strike_records.specs.Pieces.{recordAt, answerable, Fed, still, setAfter, linesOf, recordsFed, fed, endLine, beginStage, beginLine, Piece, joined, Roomy, piecewise, programPiecewise}
+use Rattle.strike_records.specs.declared.session.Stage.{Stage}
+use Rattle.strike_records.specs.declared.session.Stage.the-variants.{Header, Records, Stopped}
+
+-- a header that has arrived stays what it is
+headed-more : (bytes more : List ℕ) → 5 ≤ length bytes → headed (bytes ++ more) ≡ headed bytes
+unfolding headed
+headed-more bytes more h =
+    rw (
+      le-ltb (length (bytes ++ more)) 5 (simp length-append (omega arith)),
+      le-ltb (length bytes) 5 h,
+      List·getD-append bytes more 0 0 (omega arith),
+      List·getD-append bytes more 0 1 (omega arith),
+      List·getD-append bytes more 0 2 (omega arith),
+      List·getD-append bytes more 0 3 (omega arith),
+      List·getD-append bytes more 0 4 (omega arith),
+    )
+
+short-header : (bytes : List ℕ) → length bytes < 5 → headed bytes ≡ false
+unfolding headed
+short-header bytes h = rw (lt-ltb (length bytes) 5 h)
+
+module _ (A : Arith) (table : List Float) where
+  -- what is still to be written, for the bytes that were not taken
+  abbrev remaining : Stage → Set → List ℕ → List ℕ
+  remaining Header s bytes = session A table s bytes
+  remaining (Records n) s bytes = records A table n s bytes
+  remaining Stopped s bytes = []
+
+  -- ---- what is written and what is still to be written are together always the same
+
+  one-record : (n m : ℕ) (s : Set) (bytes : List ℕ) → n ≡ suc m → 10 ≤ length bytes
+      → records A table n s bytes ≡ recordLine A table s (take 10 bytes) ++ records A table m (recordSet A table s (take 10 bytes)) (drop 10 bytes)
+  unfolding records
+  one-record n m s bytes e h = rw (e, le-ltb (length bytes) 10 h, records)
+
+  some-records : (n : ℕ) (s : Set) (bytes more : List ℕ) (k : ℕ) → k ≤ n → k * 10 ≤ length bytes
+      → records A table n s (bytes ++ more) ≡ linesOf A table s bytes k ++ records A table (n - k) (setAfter A table s bytes k) (drop (k * 10) bytes ++ more)
+  unfolding linesOf setAfter
+  some-records n s bytes more zero h l = ap (λ (m : ℕ). records A table m s (bytes ++ more)) none
+    where
+      none : n ≡ n - 0
+      none = omega arith
+  some-records n s bytes more (suc k) h l =
+      let t = setAfter A table s bytes k in
+      let here = drop (k * 10) bytes in
+      let long : 10 ≤ length here = simp length-drop (omega arith) in
+      let first = take-append-le 10 here more long in
+      let behind : drop 10 (here ++ more) ≡ drop (suc k * 10) bytes ++ more = drop-append-le 10 here more long ∙ ap (λ (l : List ℕ). l ++ more) (drop-drop 10 (k * 10) bytes ∙ ap (λ (i : ℕ). drop i bytes) ten) in
+      some-records n s bytes more k (omega arith) (omega arith)
+      ∙ ap (λ (l : List ℕ). linesOf A table s bytes k ++ l) (one-record (n - k) (n - suc k) t (here ++ more) (omega arith) (simp length-append (omega arith)) ∙ rw (first, behind) refl)
+      ∙ sym (append-assoc (linesOf A table s bytes k) (recordLine A table t (recordAt bytes k)) _)
+    where
+      ten : k * 10 + 10 ≡ suc k * 10
+      ten = omega arith
+
+  answered-records : (n : ℕ) (s : Set) (bytes more : List ℕ) (room : ℕ)
+      → records A table n s (bytes ++ more)
+      ≡ linesOf A table s bytes (answerable n bytes room) ++ records A table (n - answerable n bytes room) (setAfter A table s bytes (answerable n bytes room)) (drop (answerable n bytes room * 10) bytes ++ more)
+  answered-records n s bytes more room =
+      let there = le-trans (min-le-right n (min (length bytes / 10) (room / LINE))) (min-le-left (length bytes / 10) (room / LINE)) in
+      some-records n s bytes more (answerable n bytes room) (min-le-left n (min (length bytes / 10) (room / LINE))) (omega (arith, there))
+
+  abbrev Law : Stage → Set → List ℕ → List ℕ → Fed → Type 0
+  Law stage s bytes more f = remaining stage s (bytes ++ more) ≡ f .lines ++ remaining (f .stage) (f .set) (drop (f .taken) bytes ++ more)
+
+  good-header : (s : Set) (bytes more : List ℕ) → 5 ≤ length bytes → headed bytes ≡ true → session A table s (bytes ++ more) ≡ records A table MAX-RECORDS s (drop 5 bytes ++ more)
+  unfolding session
+  good-header s bytes more h g = rw (headed-more bytes more h ∙ g, session) (ap (records A table MAX-RECORDS s) (drop-append-le 5 bytes more h))
+
+  bad-header : (s : Set) (bytes : List ℕ) → headed bytes ≡ false → session A table s bytes ≡ refusalLine 11
+  unfolding session
+  bad-header s bytes g = rw (g, session)
+
+  fed-law : (stage : Stage) (s : Set) (bytes more : List ℕ) (room : ℕ) → Law stage s bytes more (fed A table stage s bytes room)
+  unfolding fed recordsFed
+  fed-law Stopped s bytes more room = refl
+  fed-law (Records n) s bytes more room = rw (zero-add (answerable n bytes room * 10)) (answered-records n s bytes more room)
+  fed-law Header s bytes more room = by (ltb (length bytes) 5) refl (headed bytes) refl (ltb room LINE)
+    where
+      by : (short : Bool) → ltb (length bytes) 5 ≡ short → (good : Bool) → headed bytes ≡ good → (narrow : Bool)
+          → Law Header s bytes more (elim short [
+            | true ↦ still Header s
+            | false ↦
+                elim good [
+                  | true ↦ recordsFed A table 5 MAX-RECORDS s (drop 5 bytes) (answerable MAX-RECORDS (drop 5 bytes) room)
+                  | false ↦ elim narrow [ true ↦ still Header s | false ↦ record { stage = Stopped; taken = 5; lines = refusalLine 11; set = s } ]
+                ]
+          ])
+      by true e good g narrow = refl
+      by false e true g narrow =
+          good-header s bytes more (ltb-false (length bytes) 5 e) g
+          ∙ answered-records MAX-RECORDS s (drop 5 bytes) more room
+          ∙ rw (drop-drop (answerable MAX-RECORDS (drop 5 bytes) room * 10) 5 bytes) refl
+      by false e false g true = refl
+      by false e false g false = bad-header s (bytes ++ more) (headed-more bytes more (ltb-false (length bytes) 5 e) ∙ g) ∙ sym (append-nil (refusalLine 11))
+
+  -- ---- the input's end
+
+  -- fewer bytes are left than are taken together
+  abbrev Settled : Stage → ℕ → Type 0
+  Settled Header kept = kept < 5
+  Settled (Records zero) kept = Unit {0}
+  Settled (Records (suc n)) kept = kept < 10
+  Settled Stopped kept = Unit {0}
+
+  end-law : (stage : Stage) (s : Set) (kept : List ℕ) → Settled stage (length kept) → endLine stage (length kept) ≡ remaining stage s kept
+  unfolding records
+  end-law Header s kept h = sym (bad-header s kept (short-header kept h))
+  end-law (Records zero) s kept h = refl
+  end-law (Records (suc n)) s [] h = refl
+  end-law (Records (suc n)) s (b ∷ kept) h = rw (lt-ltb (length (b ∷ kept)) 10 h, records)
+  end-law Stopped s kept h = refl
+
+  -- the same of what is left of the bytes that were fed
+  abbrev After : List ℕ → Fed → Type 0
+  After bytes f = Settled (f .stage) (length (drop (f .taken) bytes))
+
+  settled-records : (n kept : ℕ) → (0 < n → kept < 10) → Settled (Records n) kept
+  settled-records zero kept h = tt
+  settled-records (suc n) kept h = h (omega arith)
+
+  -- with room for the lines, only a part of a record is left
+  all-answered : (header n : ℕ) (s : Set) (bytes whole : List ℕ) (room : ℕ) → bytes ≡ drop header whole → length bytes / 10 * LINE ≤ room
+      → After whole (recordsFed A table header n s bytes (answerable n bytes room))
+  unfolding recordsFed
+  all-answered header n s bytes whole room e h =
+      let k = answerable n bytes room in
+      let fits : length bytes / 10 ≤ room / LINE = omega arith in
+      let k-is : k ≡ min n (length bytes / 10) = ap (min n) (min-eq-left fits) in
+      settled-records (n - k) (length (drop (header + k * 10) whole)) λ some.
+      let all : k ≡ length bytes / 10 = k-is ∙ min-eq-right (omega (arith, k-is)) in
+      let left : length (drop (header + k * 10) whole) ≡ length bytes - k * 10 = ap length (sym (drop-drop (k * 10) header whole)) ∙ ap (λ (l : List ℕ). length (drop (k * 10) l)) (sym e) ∙ length-drop (k * 10) bytes in
+      omega (arith, left, all)
+
+  settled-after : (stage : Stage) (s : Set) (bytes : List ℕ) (room : ℕ) → length bytes / 10 * LINE ≤ room → LINE ≤ room
+      → After bytes (fed A table stage s bytes room)
+  unfolding fed
+  settled-after Stopped s bytes room h l = tt
+  settled-after (Records n) s bytes room h l = all-answered 0 n s bytes bytes room refl h
+  settled-after Header s bytes room h l = by (ltb (length bytes) 5) refl (headed bytes) (ltb room LINE) refl
+    where
+      by : (short : Bool) → ltb (length bytes) 5 ≡ short → (good narrow : Bool) → ltb room LINE ≡ narrow
+          → After bytes (elim short [
+            | true ↦ still Header s
+            | false ↦
+                elim good [
+                  | true ↦ recordsFed A table 5 MAX-RECORDS s (drop 5 bytes) (answerable MAX-RECORDS (drop 5 bytes) room)
+                  | false ↦ elim narrow [ true ↦ still Header s | false ↦ record { stage = Stopped; taken = 5; lines = refusalLine 11; set = s } ]
+                ]
+          ])
+      by true e good narrow f = ltb-true (length bytes) 5 e
+      by false e true narrow f = all-answered 5 MAX-RECORDS s (drop 5 bytes) bytes room refl (omega (arith, length-drop 5 bytes))
+      by false e false true f = absurd (omega (arith, ltb-true room LINE f))
+      by false e false false f = tt
+
+  settled-next : (stage : Stage) (s : Set) (kept : List ℕ) (p : Piece) → Settled stage (length kept) → (length (p .bytes) / 10 + 1) * LINE ≤ p .room
+      → After (kept ++ p .bytes) (fed A table stage s (kept ++ p .bytes) (p .room))
+  unfolding fed recordsFed
+  settled-next Header s kept p h r = settled-after Header s (kept ++ p .bytes) (p .room) (simp length-append (omega arith)) (omega arith)
+  settled-next (Records zero) s kept p h r = settled-records (0 - answerable 0 (kept ++ p .bytes) (p .room)) _ λ (some : 0 < 0 - answerable 0 (kept ++ p .bytes) (p .room)). absurd (omega arith)
+  settled-next (Records (suc n)) s kept p h r = settled-after (Records (suc n)) s (kept ++ p .bytes) (p .room) (simp length-append (omega arith)) (omega arith)
+  settled-next Stopped s kept p h r = tt
+
+  -- ---- the whole
+
+  all-pieces : (ps : List Piece) (stage : Stage) (s : Set) (kept : List ℕ) → Settled stage (length kept) → Roomy ps → piecewise A table stage s kept ps ≡ remaining stage s (kept ++ joined ps)
+  all-pieces [] stage s kept h r = end-law stage s kept h ∙ ap (remaining stage s) (sym (append-nil kept))
+  all-pieces (p ∷ ps) stage s kept h r =
+      let bytes = kept ++ p .bytes in
+      let f = fed A table stage s bytes (p .room) in
+      ap (λ (l : List ℕ). f .lines ++ l) (all-pieces ps (f .stage) (f .set) (drop (f .taken) bytes) (settled-next stage s kept p h (r .0)) (r .1))
+      ∙ sym (fed-law stage s bytes (joined ps) (p .room))
+      ∙ ap (remaining stage s) (append-assoc kept (p .bytes) (joined ps))
+
+  -- a session on a set that open just answered
+  pub session-in-pieces : (s : Set) (ps : List Piece) → Roomy ps → piecewise A table Header s [] ps ≡ session A table s (joined ps)
+  session-in-pieces s ps r = all-pieces ps Header s [] (omega arith) r
+
+  -- the program, from open on
+  pub program-in-pieces : (s : Set) (ps : List Piece) → Roomy ps → programPiecewise A table s ps ≡ program A table s (joined ps)
+  unfolding program
+  program-in-pieces s ps r = by (openGiven A table (s .frame) (s .face) (s .sphere))
+    where
+      by : (given : Given (Unit {0}))
+          → beginLine given ++ piecewise A table (beginStage given) (opened A table s) [] ps ≡ lineOf (λ u. session A table (opened A table s) (joined ps)) given
+      by (answered u) = session-in-pieces (opened A table s) ps r
+      by (refused n) = ap (λ (l : List ℕ). refusalLine n ++ l) (all-pieces ps Stopped (opened A table s) [] tt r) ∙ append-nil (refusalLine n)
+
+  -- however the same bytes are cut
+  pub cuts-alike : (s : Set) (ps qs : List Piece) → Roomy ps → Roomy qs → joined ps ≡ joined qs → programPiecewise A table s ps ≡ programPiecewise A table s qs
+  cuts-alike s ps qs p q e = program-in-pieces s ps p ∙ ap (program A table s) e ∙ sym (program-in-pieces s qs q)

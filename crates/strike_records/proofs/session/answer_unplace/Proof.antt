@@ -1,0 +1,35 @@
+-- `session::answer_unplace` meets its contract. Assumes nothing.
+use mathlib.Core.Path.{sym, ap, _∙_}
+use borrow.Author.Needs.{needs}
+use Rattle.coordinates.specs.Conversions.{givenLonLat}
+use Rattle.strike_records.proofs.session.answer_unplace.Statement.{statement}
+use Rattle.strike_records.proofs.session.answer_unplace.Tie as tie
+
+returns : tie.Need-returns
+returns c =
+    let call = c .before .before .before .before .before .before .before .before .before .before .before .unplace in
+    rw (sym (call .ensures .0) ∙ ap givenLonLat (c .before .before .before .before .before .l .given .1)) (c .before .before .write-lon-lat .ensures .0, (c .before .before .write-lon-lat .ensures .1, (call .ensures .1 .0, call .ensures .1 .1)))
+
+returns-2 : tie.Need-returns-2
+returns-2 c =
+    let call = c .before .before .before .before .before .before .before .before .before .before .before .before .unplace in
+    rw (sym (call .ensures .0) ∙ ap givenLonLat (c .before .before .before .before .before .before .n .given .1), ← (c .before .before .before .number .ensures)) (c .before .before .write-refusal .ensures .0, (c .before .before .write-refusal .ensures .1, (call .ensures .1 .0, call .ensures .1 .1)))
+
+pub answer-unplace-spec : {M : Type 1} → statement M
+answer-unplace-spec =
+    tie.close
+    (tie.spec
+    (λ c κs. search needs)
+    (λ c. search needs)
+    (λ c κs. search needs)
+    (λ c. search needs)
+    (λ c κs. search needs)
+    (λ c κs. search needs)
+    (λ c. search needs)
+    (λ c. search needs)
+    (λ c. search needs)
+    returns
+    (λ c. search needs)
+    (λ c. search needs)
+    (λ c. search needs)
+    returns-2)

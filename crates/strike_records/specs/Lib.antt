@@ -1,0 +1,5 @@
+-- Document 01, "The strike program". Definitions only.
+pub mod Line
+pub mod Record
+pub mod Session
+pub mod Pieces

@@ -1,0 +1,317 @@
+// A session on slices. The caller keeps the bytes that were not taken, and lends them again
+// with what arrives next behind them: how the input is cut changes nothing.
+use crate::line::write_lon_lat;
+use crate::line::write_place;
+use crate::line::write_refusal;
+use crate::record::Request;
+use crate::record::is_header;
+use answer::Refusal;
+use coordinates::conversions::LonLatAnswer;
+use coordinates::coords::Face;
+use coordinates::lonlat::LonLat;
+use set::open::OpenAnswer;
+use dodecahedron::used::PlaceAnswer;
+ghost use mathlib.Core.Path.{_≡_};
+ghost use Prim.Native.Nat.{_+_, _*_, _≤_, _/_, min};
+ghost use lib.ListN.{length};
+ghost use Rattle.arithmetic.specs.Arith.{ieee};
+ghost use Rattle.origin.specs.Origins.{ORIGINS};
+ghost use Rattle.dodecahedron.specs.Slots.{put};
+ghost use Rattle.set.specs.Open.{openGiven};
+ghost use Rattle.strike_records.specs.Line.{LINE, refusalLine};
+ghost use Rattle.strike_records.specs.Session.{setOf, opened, lineFor, faceFor, sphereFor, recordLine, recordSet};
+ghost use Rattle.strike_records.specs.Pieces.{answerable, setAfter, linesOf, recordsFed, fed, endLine, fitting, beginStage, beginLine, over, leftOver};
+ghost use Rattle.strike_records.specs.Record.{place, unplace};
+ghost use Rattle.answer.specs.Given.{answered};
+ghost use Rattle.strike_records.specs.declared.session.Stage.the-variants.{Header};
+
+// The records that are still taken, after the header; a stopped session takes nothing more.
+// Room for any line.
+pub const LINE: usize = 40;
+
+pub enum Stage {
+    Header,
+    Records(u32),
+    Stopped,
+}
+
+pub struct Begun {
+    pub stage: Stage,
+    pub written: usize,
+}
+
+pub struct Fed {
+    pub stage: Stage,
+    pub taken: usize,
+    pub written: usize,
+}
+
+// Place on a set: the answer's line, from a place on.
+fn answer_place(
+    frame: &[f64],
+    face: &mut [f64],
+    sphere: &mut [f64],
+    lonlat: LonLat,
+    out: &mut [u8],
+    at: usize,
+) -> usize
+    requires { ⌜ at + LINE ≤ length (now out) ⌝ }
+    ensures { λ r. ⌜ r ≡ at + length (lineFor ieee ORIGINS (setOf (now (frame .entry)) (now (face .entry)) (now (sphere .entry))) (answered (place lonlat))) ⌝ }
+    ensures { λ _. ⌜ now (out .exit) ≡ put (now (out .entry)) at (lineFor ieee ORIGINS (setOf (now (frame .entry)) (now (face .entry)) (now (sphere .entry))) (answered (place lonlat))) ⌝ }
+    ensures { λ _. ⌜ now (face .exit) ≡ faceFor ieee ORIGINS (setOf (now (frame .entry)) (now (face .entry)) (now (sphere .entry))) (answered (place lonlat)) ⌝ }
+    ensures { λ _. ⌜ now (sphere .exit) ≡ sphereFor ieee ORIGINS (setOf (now (frame .entry)) (now (face .entry)) (now (sphere .entry))) (answered (place lonlat)) ⌝ }
+{
+    match dodecahedron::calls::place(frame, face, sphere, lonlat) {
+        PlaceAnswer::Answered(p) => write_place(out, at, p),
+        PlaceAnswer::Refused(n) => write_refusal(out, at, answer::number(n)),
+    }
+}
+
+fn answer_unplace(
+    frame: &[f64],
+    face: &mut [f64],
+    sphere: &mut [f64],
+    point: Face,
+    origin: u8,
+    out: &mut [u8],
+    at: usize,
+) -> usize
+    requires { ⌜ at + LINE ≤ length (now out) ⌝ }
+    ensures { λ r. ⌜ r ≡ at + length (lineFor ieee ORIGINS (setOf (now (frame .entry)) (now (face .entry)) (now (sphere .entry))) (answered (unplace point origin))) ⌝ }
+    ensures { λ _. ⌜ now (out .exit) ≡ put (now (out .entry)) at (lineFor ieee ORIGINS (setOf (now (frame .entry)) (now (face .entry)) (now (sphere .entry))) (answered (unplace point origin))) ⌝ }
+    ensures { λ _. ⌜ now (face .exit) ≡ faceFor ieee ORIGINS (setOf (now (frame .entry)) (now (face .entry)) (now (sphere .entry))) (answered (unplace point origin)) ⌝ }
+    ensures { λ _. ⌜ now (sphere .exit) ≡ sphereFor ieee ORIGINS (setOf (now (frame .entry)) (now (face .entry)) (now (sphere .entry))) (answered (unplace point origin)) ⌝ }
+{
+    match dodecahedron::calls::unplace(frame, face, sphere, point, origin) {
+        LonLatAnswer::Answered(l) => write_lon_lat(out, at, l),
+        LonLatAnswer::Refused(n) => write_refusal(out, at, answer::number(n)),
+    }
+}
+
+fn answer_record(
+    frame: &[f64],
+    face: &mut [f64],
+    sphere: &mut [f64],
+    bytes: &[u8],
+    out: &mut [u8],
+    at: usize,
+) -> usize
+    requires { ⌜ (length (now bytes) ≡ 10) × (at + LINE ≤ length (now out)) ⌝ }
+    ensures { λ r. ⌜ r ≡ at + length (recordLine ieee ORIGINS (setOf (now (frame .entry)) (now (face .entry)) (now (sphere .entry))) (now (bytes .entry))) ⌝ }
+    ensures { λ _. ⌜ now (out .exit) ≡ put (now (out .entry)) at (recordLine ieee ORIGINS (setOf (now (frame .entry)) (now (face .entry)) (now (sphere .entry))) (now (bytes .entry))) ⌝ }
+    ensures { λ _. ⌜ now (face .exit) ≡ recordSet ieee ORIGINS (setOf (now (frame .entry)) (now (face .entry)) (now (sphere .entry))) (now (bytes .entry)) .face ⌝ }
+    ensures { λ _. ⌜ now (sphere .exit) ≡ recordSet ieee ORIGINS (setOf (now (frame .entry)) (now (face .entry)) (now (sphere .entry))) (now (bytes .entry)) .sphere ⌝ }
+{
+    match crate::record::decode(bytes) {
+        Request::Place(p) => answer_place(frame, face, sphere, p, out, at),
+        Request::Unplace(p, origin) => answer_unplace(frame, face, sphere, p, origin, out, at),
+        Request::Refused(n) => write_refusal(out, at, answer::number(n)),
+    }
+}
+
+// The first records of the input, one after the other.
+fn answer_records(
+    frame: &[f64],
+    face: &mut [f64],
+    sphere: &mut [f64],
+    input: &[u8],
+    out: &mut [u8],
+    count: usize,
+) -> usize
+    requires { ⌜ (count * 10 ≤ length (now input)) × (count * LINE ≤ length (now out)) ⌝ }
+    ensures { λ r. ⌜ r ≡ length (linesOf ieee ORIGINS (setOf (now (frame .entry)) (now (face .entry)) (now (sphere .entry))) (now (input .entry)) count) ⌝ }
+    ensures { λ _. ⌜ now (out .exit) ≡ put (now (out .entry)) 0 (linesOf ieee ORIGINS (setOf (now (frame .entry)) (now (face .entry)) (now (sphere .entry))) (now (input .entry)) count) ⌝ }
+    ensures { λ _. ⌜ now (face .exit) ≡ setAfter ieee ORIGINS (setOf (now (frame .entry)) (now (face .entry)) (now (sphere .entry))) (now (input .entry)) count .face ⌝ }
+    ensures { λ _. ⌜ now (sphere .exit) ≡ setAfter ieee ORIGINS (setOf (now (frame .entry)) (now (face .entry)) (now (sphere .entry))) (now (input .entry)) count .sphere ⌝ }
+{
+    let mut i: usize = 0;
+    let mut written: usize = 0;
+    while i < count {
+        let at = i * 10;
+        written = answer_record(frame, face, sphere, &input[at..at + 10], out, written);
+        i += 1;
+    }
+    written
+}
+
+fn least(a: usize, b: usize) -> usize
+    ensures { λ r. ⌜ r ≡ min a b ⌝ }
+{
+    if a < b { a } else { b }
+}
+
+// All records that can be answered, behind so many bytes of the header.
+fn feed_records(
+    frame: &[f64],
+    face: &mut [f64],
+    sphere: &mut [f64],
+    header: usize,
+    left: u32,
+    input: &[u8],
+    out: &mut [u8],
+) -> Fed
+    requires { ⌜ header ≤ 5 ⌝ }
+    ensures { λ r. ⌜ r .stage ≡ recordsFed ieee ORIGINS header left (setOf (now (frame .entry)) (now (face .entry)) (now (sphere .entry))) (now (input .entry)) (answerable left (now (input .entry)) (length (now (out .entry)))) .stage ⌝ }
+    ensures { λ r. ⌜ r .taken ≡ recordsFed ieee ORIGINS header left (setOf (now (frame .entry)) (now (face .entry)) (now (sphere .entry))) (now (input .entry)) (answerable left (now (input .entry)) (length (now (out .entry)))) .taken ⌝ }
+    ensures { λ r. ⌜ r .written ≡ length (recordsFed ieee ORIGINS header left (setOf (now (frame .entry)) (now (face .entry)) (now (sphere .entry))) (now (input .entry)) (answerable left (now (input .entry)) (length (now (out .entry)))) .lines) ⌝ }
+    ensures { λ _. ⌜ now (out .exit) ≡ put (now (out .entry)) 0 (recordsFed ieee ORIGINS header left (setOf (now (frame .entry)) (now (face .entry)) (now (sphere .entry))) (now (input .entry)) (answerable left (now (input .entry)) (length (now (out .entry)))) .lines) ⌝ }
+    ensures { λ _. ⌜ now (face .exit) ≡ recordsFed ieee ORIGINS header left (setOf (now (frame .entry)) (now (face .entry)) (now (sphere .entry))) (now (input .entry)) (answerable left (now (input .entry)) (length (now (out .entry)))) .set .face ⌝ }
+    ensures { λ _. ⌜ now (sphere .exit) ≡ recordsFed ieee ORIGINS header left (setOf (now (frame .entry)) (now (face .entry)) (now (sphere .entry))) (now (input .entry)) (answerable left (now (input .entry)) (length (now (out .entry)))) .set .sphere ⌝ }
+{
+    let count = least(left as usize, least(input.len() / 10, out.len() / LINE));
+    let written = answer_records(frame, face, sphere, input, out, count);
+    Fed {
+        stage: Stage::Records(left - count as u32),
+        taken: header + count * 10,
+        written,
+    }
+}
+
+// The header, and the records behind it.
+fn feed_header(
+    frame: &[f64],
+    face: &mut [f64],
+    sphere: &mut [f64],
+    input: &[u8],
+    out: &mut [u8],
+) -> Fed
+    ensures { λ r. ⌜ r .stage ≡ fed ieee ORIGINS Header (setOf (now (frame .entry)) (now (face .entry)) (now (sphere .entry))) (now (input .entry)) (length (now (out .entry))) .stage ⌝ }
+    ensures { λ r. ⌜ r .taken ≡ fed ieee ORIGINS Header (setOf (now (frame .entry)) (now (face .entry)) (now (sphere .entry))) (now (input .entry)) (length (now (out .entry))) .taken ⌝ }
+    ensures { λ r. ⌜ r .written ≡ length (fed ieee ORIGINS Header (setOf (now (frame .entry)) (now (face .entry)) (now (sphere .entry))) (now (input .entry)) (length (now (out .entry))) .lines) ⌝ }
+    ensures { λ _. ⌜ now (out .exit) ≡ put (now (out .entry)) 0 (fed ieee ORIGINS Header (setOf (now (frame .entry)) (now (face .entry)) (now (sphere .entry))) (now (input .entry)) (length (now (out .entry))) .lines) ⌝ }
+    ensures { λ _. ⌜ now (face .exit) ≡ fed ieee ORIGINS Header (setOf (now (frame .entry)) (now (face .entry)) (now (sphere .entry))) (now (input .entry)) (length (now (out .entry))) .set .face ⌝ }
+    ensures { λ _. ⌜ now (sphere .exit) ≡ fed ieee ORIGINS Header (setOf (now (frame .entry)) (now (face .entry)) (now (sphere .entry))) (now (input .entry)) (length (now (out .entry))) .set .sphere ⌝ }
+{
+    let nothing = Fed {
+        stage: Stage::Header,
+        taken: 0,
+        written: 0,
+    };
+    if input.len() < 5 {
+        return nothing;
+    }
+    if is_header(input) {
+        return feed_records(frame, face, sphere, 5, 0xffff_ffff, &input[5..], out);
+    }
+    if out.len() < LINE {
+        return nothing;
+    }
+    let written = write_refusal(out, 0, answer::number(Refusal::Header));
+    Fed {
+        stage: Stage::Stopped,
+        taken: 5,
+        written,
+    }
+}
+
+// Answers all that it can of the input that has arrived and was not taken yet. It takes
+// the header and whole records, as many as there is room for: a line never has more than LINE bytes.
+pub fn feed(
+    stage: Stage,
+    frame: &[f64],
+    face: &mut [f64],
+    sphere: &mut [f64],
+    input: &[u8],
+    out: &mut [u8],
+) -> Fed
+    ensures { λ r. ⌜ r .stage ≡ fed ieee ORIGINS stage (setOf (now (frame .entry)) (now (face .entry)) (now (sphere .entry))) (now (input .entry)) (length (now (out .entry))) .stage ⌝ }
+    ensures { λ r. ⌜ r .taken ≡ fed ieee ORIGINS stage (setOf (now (frame .entry)) (now (face .entry)) (now (sphere .entry))) (now (input .entry)) (length (now (out .entry))) .taken ⌝ }
+    ensures { λ r. ⌜ r .written ≡ length (fed ieee ORIGINS stage (setOf (now (frame .entry)) (now (face .entry)) (now (sphere .entry))) (now (input .entry)) (length (now (out .entry))) .lines) ⌝ }
+    ensures { λ _. ⌜ now (out .exit) ≡ put (now (out .entry)) 0 (fed ieee ORIGINS stage (setOf (now (frame .entry)) (now (face .entry)) (now (sphere .entry))) (now (input .entry)) (length (now (out .entry))) .lines) ⌝ }
+    ensures { λ _. ⌜ now (face .exit) ≡ fed ieee ORIGINS stage (setOf (now (frame .entry)) (now (face .entry)) (now (sphere .entry))) (now (input .entry)) (length (now (out .entry))) .set .face ⌝ }
+    ensures { λ _. ⌜ now (sphere .exit) ≡ fed ieee ORIGINS stage (setOf (now (frame .entry)) (now (face .entry)) (now (sphere .entry))) (now (input .entry)) (length (now (out .entry))) .set .sphere ⌝ }
+    ensures { λ r. ⌜ (r .taken ≤ length (now (input .entry))) × (r .written ≤ length (now (out .entry))) ⌝ }
+{
+    match stage {
+        Stage::Header => feed_header(frame, face, sphere, input, out),
+        Stage::Records(left) => feed_records(frame, face, sphere, 0, left, input, out),
+        Stage::Stopped => Fed {
+            stage,
+            taken: 0,
+            written: 0,
+        },
+    }
+}
+
+// Opens the set, before anything is read. Where open refuses, that is the only line.
+pub fn begin(frame: &mut [f64], face: &mut [f64], sphere: &mut [f64], out: &mut [u8]) -> Begun
+    ensures { λ r. ⌜ r .stage ≡ beginStage (openGiven ieee ORIGINS (now (frame .entry)) (now (face .entry)) (now (sphere .entry))) ⌝ }
+    ensures { λ r. ⌜ r .written ≡ length (fitting (length (now (out .entry))) (beginLine (openGiven ieee ORIGINS (now (frame .entry)) (now (face .entry)) (now (sphere .entry))))) ⌝ }
+    ensures { λ _. ⌜ now (out .exit) ≡ put (now (out .entry)) 0 (fitting (length (now (out .entry))) (beginLine (openGiven ieee ORIGINS (now (frame .entry)) (now (face .entry)) (now (sphere .entry))))) ⌝ }
+    ensures { λ _. ⌜ now (frame .exit) ≡ opened ieee ORIGINS (setOf (now (frame .entry)) (now (face .entry)) (now (sphere .entry))) .frame ⌝ }
+    ensures { λ _. ⌜ now (face .exit) ≡ opened ieee ORIGINS (setOf (now (frame .entry)) (now (face .entry)) (now (sphere .entry))) .face ⌝ }
+    ensures { λ _. ⌜ now (sphere .exit) ≡ opened ieee ORIGINS (setOf (now (frame .entry)) (now (face .entry)) (now (sphere .entry))) .sphere ⌝ }
+    ensures { λ r. ⌜ r .written ≤ length (now (out .entry)) ⌝ }
+{
+    match set::open::open(frame, face, sphere) {
+        OpenAnswer::Opened => Begun {
+            stage: Stage::Header,
+            written: 0,
+        },
+        OpenAnswer::Refused(n) => Begun {
+            stage: Stage::Stopped,
+            written: write_fitting(out, answer::number(n)),
+        },
+    }
+}
+
+// A refusal's line, where there is room for a line.
+fn write_fitting(out: &mut [u8], number: u8) -> usize
+    ensures { λ r. ⌜ r ≡ length (fitting (length (now (out .entry))) (refusalLine number)) ⌝ }
+    ensures { λ _. ⌜ now (out .exit) ≡ put (now (out .entry)) 0 (fitting (length (now (out .entry))) (refusalLine number)) ⌝ }
+    ensures { λ r. ⌜ r ≤ length (now (out .entry)) ⌝ }
+{
+    if out.len() < LINE {
+        return 0;
+    }
+    write_refusal(out, 0, number)
+}
+
+// The input's end, with so many bytes that were not taken.
+pub fn finish(stage: Stage, kept: usize, out: &mut [u8]) -> usize
+    ensures { λ r. ⌜ r ≡ length (fitting (length (now (out .entry))) (endLine stage kept)) ⌝ }
+    ensures { λ _. ⌜ now (out .exit) ≡ put (now (out .entry)) 0 (fitting (length (now (out .entry))) (endLine stage kept)) ⌝ }
+    ensures { λ r. ⌜ r ≤ length (now (out .entry)) ⌝ }
+{
+    match stage {
+        Stage::Header => write_fitting(out, answer::number(Refusal::Header)),
+        Stage::Records(left) => {
+            if left == 0 {
+                return 0;
+            }
+            if kept == 0 {
+                return 0;
+            }
+            write_fitting(out, answer::number(Refusal::CutOff))
+        }
+        Stage::Stopped => 0,
+    }
+}
+
+// Whether a session takes nothing more.
+pub fn is_over(stage: Stage) -> bool
+    ensures { λ r. ⌜ r ≡ over stage ⌝ }
+{
+    match stage {
+        Stage::Header => false,
+        Stage::Records(left) => left == 0,
+        Stage::Stopped => true,
+    }
+}
+
+// Moves what was not taken of a buffer's first bytes to its start, and returns how many that are.
+pub fn keep_rest(buffer: &mut [u8], taken: usize, filled: usize) -> usize
+    ensures { λ r. ⌜ r ≡ length (leftOver (now (buffer .entry)) taken filled) ⌝ }
+    ensures { λ _. ⌜ now (buffer .exit) ≡ put (now (buffer .entry)) 0 (leftOver (now (buffer .entry)) taken filled) ⌝ }
+    ensures { λ r. ⌜ r ≤ length (now (buffer .entry)) ⌝ }
+{
+    let end = least(filled, buffer.len());
+    let mut from = taken;
+    let mut i: usize = 0;
+    while from < end {
+        buffer[i] = buffer[from];
+        i += 1;
+        from += 1;
+    }
+    i
+}
