@@ -1,7 +1,7 @@
 // Ways of making arguments, which the oracles on the given Rust share.
 
-use crate::generator::Generator;
-use crate::values::{both_signs, moved};
+use super::generator::Generator;
+use super::values::{both_signs, moved};
 
 pub const SMALLEST: f64 = f64::from_bits(1);
 

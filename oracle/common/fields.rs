@@ -1,6 +1,17 @@
-// The Rust's values from numbers and back, in the order of its fields.
+// The Rust's values from numbers and back, in the order of its fields. A whole number stands as it is, not as a float.
 
-use a5::coordinate_systems::{Cartesian, Face, FaceTriangle, LonLat, Polar, Radians, Spherical};
+use a5::coordinate_systems::{
+    Cartesian, Face, FaceTriangle, LonLat, Polar, Radians, Spherical, SphericalTriangle,
+};
+
+// The float with the bits of a whole number, as a list has it, and back.
+pub fn whole(n: usize) -> f64 {
+    f64::from_bits(n as u64)
+}
+
+pub fn of_whole(x: f64) -> usize {
+    x.to_bits() as usize
+}
 
 pub fn face(x: &[f64]) -> Face {
     Face::new(x[0], x[1])
@@ -32,4 +43,17 @@ pub fn of_spherical(s: Spherical) -> [f64; 2] {
 
 pub fn of_polar(p: Polar) -> [f64; 2] {
     [p.rho(), p.gamma().get()]
+}
+
+pub fn spherical_triangle(x: &[f64]) -> SphericalTriangle {
+    let [a, b, c] = [&x[0..3], &x[3..6], &x[6..9]].map(cartesian);
+    SphericalTriangle::new(a, b, c)
+}
+
+pub fn of_triangle(t: FaceTriangle) -> Vec<f64> {
+    [t.a, t.b, t.c].map(<[f64; 2]>::from).concat()
+}
+
+pub fn of_spherical_triangle(t: SphericalTriangle) -> Vec<f64> {
+    [t.a, t.b, t.c].map(<[f64; 3]>::from).concat()
 }

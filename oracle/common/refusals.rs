@@ -1,4 +1,20 @@
-// The refusals that look at a call's numbers. The Rust refuses nothing: these are document 01's, under its words.
+// The refusals that look at the lent buffers' lengths, at a call's numbers and at its answer. The Rust has none of them: these
+// are document 01's, under its words.
+
+// "The frame (186 numbers, 62 rows of three), the face store (210, 30 slots of 7) and the sphere store (2,400, 240 slots of
+// 10)."
+pub const FRAME: usize = 186;
+pub const FACE_STORE: usize = 210;
+pub const SPHERE_STORE: usize = 2400;
+
+// "1: frame isn't 186 long. 2: face store isn't 210 long. 3: sphere store isn't 2,400 long." "Tried in table order."
+pub fn lengths(given: [usize; 3]) -> Result<(), u8> {
+    let wanted = [FRAME, FACE_STORE, SPHERE_STORE];
+    match (0..3).find(|i| given[*i] != wanted[*i]) {
+        Some(i) => Err(i as u8 + 1),
+        None => Ok(()),
+    }
+}
 
 // "5: a number is infinite or NaN. 6: a number is outside its range." "Each number is tried for 5 and then 6 before the
 // next one." "Ranges, ends included."
@@ -12,4 +28,13 @@ pub fn check(numbers: [f64; 2], limits: [f64; 2]) -> Result<(), u8> {
         }
     }
     Ok(())
+}
+
+// "9: the answer would have a number that isn't finite."
+pub fn finite(numbers: [f64; 2]) -> Result<(), u8> {
+    if numbers.into_iter().all(f64::is_finite) {
+        Ok(())
+    } else {
+        Err(9)
+    }
 }

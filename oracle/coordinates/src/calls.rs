@@ -1,17 +1,8 @@
 // The two conversions as calls. The Rust refuses nothing: the refusals are document 01's, under its words.
 
-use crate::refusals::check;
+use crate::common::refusals::{check, finite};
 use a5::coordinate_systems::{LonLat, Spherical};
 use a5::core::coordinate_transforms;
-
-// "9: the answer would have a number that isn't finite."
-fn finite(numbers: [f64; 2]) -> Result<(), u8> {
-    if numbers.into_iter().all(f64::is_finite) {
-        Ok(())
-    } else {
-        Err(9)
-    }
-}
 
 // "longitude ±360, latitude ±90"; "longitude, latitude".
 pub fn from_lon_lat(l: LonLat) -> Result<Spherical, u8> {

@@ -1,10 +1,10 @@
 // The arguments that each function is asked at.
 
-use crate::arguments::{few, join, limits, pairs, spoilt, wild, within, SMALLEST};
-use crate::fields::of_spherical;
-use crate::generator::Generator;
+use crate::common::arguments::{few, join, limits, pairs, spoilt, wild, within, SMALLEST};
+use crate::common::fields::of_spherical;
+use crate::common::generator::Generator;
+use crate::common::values::{both_signs, moved, near, specials};
 use crate::steps;
-use crate::values::{both_signs, moved, near, specials};
 use a5::core::origin::get_origins;
 use a5::core::tiling::get_quintant_vertices;
 use std::f64::consts::{FRAC_PI_2, FRAC_PI_4, PI};

@@ -1,26 +1,16 @@
 // Writes the answers of the given Rust, with document 01's elementary steps in it, to standard output; or with the word
 // `test` tries it on what document 01 says of single points.
 
-#[path = "../../common/arguments.rs"]
-mod arguments;
 mod calls;
-#[path = "../../common/fields.rs"]
-mod fields;
-#[allow(dead_code)]
-#[path = "../../common/generator.rs"]
-mod generator;
+#[path = "../../common/mod.rs"]
+mod common;
 mod inputs;
-#[path = "../../common/list.rs"]
-mod list;
-#[path = "../../common/refusals.rs"]
-mod refusals;
 mod selftest;
 mod steps;
-#[path = "../../common/values.rs"]
-mod values;
 
-use generator::Generator;
-use list::List;
+use common::fields;
+use common::generator::Generator;
+use common::list::List;
 
 fn from_lon_lat(x: [f64; 2]) -> Result<[f64; 2], u8> {
     calls::from_lon_lat(fields::lon_lat(x)).map(fields::of_spherical)
@@ -64,9 +54,5 @@ fn answers() -> List {
 }
 
 fn main() {
-    if std::env::args().nth(1).as_deref() == Some("test") {
-        selftest::run();
-        return;
-    }
-    answers().write();
+    common::run(selftest::run, answers);
 }

@@ -1,7 +1,7 @@
 // What document 01 says of single points, tried on the given Rust with the steps in it.
 
 use crate::calls;
-use crate::fields::{lon_lat, spherical};
+use crate::common::fields::{lon_lat, spherical};
 use crate::steps::normalize_longitude;
 use a5::coordinate_systems::Face;
 use a5::core::coordinate_transforms::{from_lon_lat, to_lon_lat};

@@ -1,6 +1,6 @@
 // The Rust's functions as functions from numbers to numbers.
 
-use crate::fields::{cartesian, face, of_polar, of_spherical, polar, spherical, triangle};
+use crate::common::fields::{cartesian, face, of_polar, of_spherical, polar, spherical, triangle};
 use a5::coordinate_systems::{Barycentric, Degrees, Radians};
 use a5::core::coordinate_transforms;
 use a5::projections::authalic::AuthalicProjection;

@@ -1,17 +1,15 @@
 // The arguments that each function is asked at.
 
-use crate::arguments::{few, join, limits, pairs, spoilt, wild, within, SMALLEST};
-use crate::calls::{FACE_STORE, FRAME, SPHERE_STORE};
-use crate::fields::{cartesian, lon_lat, of_spherical, spherical};
-use crate::generator::Generator;
-use crate::steps::{frame, whole};
-use crate::values::{both_signs, moved, near, specials};
-use a5::core::constants::{
-    DISTANCE_TO_EDGE, DISTANCE_TO_VERTEX, INTERHEDRAL_ANGLE, PI_OVER_5, TWO_PI_OVER_5,
-};
-use a5::core::coordinate_transforms::{from_lon_lat, to_cartesian, to_spherical};
+use crate::common::arguments::{few, join, limits, pairs, spoilt, wild, within, SMALLEST};
+use crate::common::fields::{of_spherical, spherical, whole};
+use crate::common::generator::Generator;
+use crate::common::places::{borders, meridians, rows};
+use crate::common::refusals::{FACE_STORE, FRAME, SPHERE_STORE};
+use crate::common::values::{both_signs, moved, near, specials};
+use a5::core::constants::{DISTANCE_TO_EDGE, DISTANCE_TO_VERTEX, PI_OVER_5, TWO_PI_OVER_5};
+use a5::core::coordinate_transforms::to_cartesian;
 use a5::core::origin::get_origins;
-use a5::steps::{atan, cos};
+use a5::steps::cos;
 use std::f64::consts::{FRAC_PI_2, PI};
 
 pub fn range(count: usize) -> Vec<[f64; 1]> {
@@ -30,53 +28,6 @@ pub fn lengths() -> Vec<[f64; 3]> {
     let mut list = Vec::new();
     for two in pairs(&of(FRAME), &of(FACE_STORE)) {
         list.extend(of(SPHERE_STORE).map(|c| join(two, [c])));
-    }
-    list
-}
-
-// The point itself, and with either number moved by one unit and by two.
-fn around(p: [f64; 2]) -> Vec<[f64; 2]> {
-    let mut list: Vec<[f64; 2]> = near(p[0]).map(|theta| [theta, p[1]]).into();
-    list.extend([-2, -1, 1, 2].map(|steps| [p[0], moved(p[1], steps)]));
-    list
-}
-
-// The meridians from -93 degrees on, every 18: on them origins tie.
-fn meridians() -> Vec<[f64; 2]> {
-    // the two rings of axes, the north face's corners, the equator
-    let ring = INTERHEDRAL_ANGLE.get();
-    let circles = [ring, PI - ring, atan(DISTANCE_TO_VERTEX), FRAC_PI_2];
-    let mut list = Vec::new();
-    for k in 0..20 {
-        for latitude in -6..=6 {
-            let place = [-93.0 + 18.0 * k as f64, 15.0 * latitude as f64];
-            list.push(of_spherical(from_lon_lat(lon_lat(place))));
-        }
-        let theta = k as f64 * PI / 10.0;
-        list.extend(circles.map(|phi| [theta, phi]));
-    }
-    list
-}
-
-fn rows() -> Vec<[f64; 3]> {
-    range(FRAME / 3).into_iter().map(frame).collect()
-}
-
-// On the borders between faces: the dodecahedron's vertices and midpoints of edges, and halfway between the two.
-fn borders() -> Vec<[f64; 2]> {
-    let rows = rows();
-    let mut list: Vec<[f64; 2]> = Vec::new();
-    for p in &rows[12..] {
-        list.extend(around(of_spherical(to_spherical(cartesian(p)))));
-    }
-    for p in &rows[12..32] {
-        for q in &rows[32..] {
-            let half: [f64; 3] = std::array::from_fn(|i| (p[i] + q[i]) / 2.0);
-            if half.map(|x| x * x).iter().sum::<f64>() > 0.95 {
-                let at = of_spherical(to_spherical(cartesian(&half)));
-                list.extend([at, [at[0], moved(at[1], 1)], [moved(at[0], 1), at[1]]]);
-            }
-        }
     }
     list
 }

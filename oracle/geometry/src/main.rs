@@ -1,30 +1,17 @@
 // Writes the fixed geometry of the given Rust, with document 01's elementary steps in it, and the answers of the functions
 // that work on it, to standard output; or with the word `test` tries it on what document 01 says of single points.
 
-#[allow(dead_code)]
-#[path = "../../common/arguments.rs"]
-mod arguments;
 mod calls;
-#[allow(dead_code)]
-#[path = "../../common/fields.rs"]
-mod fields;
-#[allow(dead_code)]
-#[path = "../../common/generator.rs"]
-mod generator;
+#[path = "../../common/mod.rs"]
+mod common;
 mod inputs;
-#[path = "../../common/list.rs"]
-mod list;
-#[path = "../../common/refusals.rs"]
-mod refusals;
 mod selftest;
 mod steps;
-#[path = "../../common/values.rs"]
-mod values;
 
-use calls::{FACE_STORE, FRAME, SPHERE_STORE};
-use generator::Generator;
-use list::List;
-use steps::whole;
+use common::fields::whole;
+use common::generator::Generator;
+use common::list::List;
+use common::refusals::{FACE_STORE, FRAME, SPHERE_STORE};
 
 // The tables: twelve origins of seven numbers, thirty triangles of three corners, 62 rows, and both stores, three numbers
 // to a record. "Open writes the frame and fills both stores with 0.0."
@@ -53,9 +40,5 @@ fn answers() -> List {
 }
 
 fn main() {
-    if std::env::args().nth(1).as_deref() == Some("test") {
-        selftest::run();
-        return;
-    }
-    answers().write();
+    common::run(selftest::run, answers);
 }

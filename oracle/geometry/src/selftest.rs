@@ -1,8 +1,8 @@
 // What document 01 says of single points, tried on the given Rust with the steps in it.
 
 use crate::calls;
-use crate::fields::{lon_lat, of_spherical};
-use crate::steps::{of_whole, triangle_index, whole};
+use crate::common::fields::{lon_lat, of_spherical, of_whole, whole};
+use crate::steps::triangle_index;
 use a5::core::coordinate_transforms::from_lon_lat;
 use a5::core::origin::{get_origins, haversine};
 use std::f64::consts::PI;

@@ -1,19 +1,11 @@
-// The Rust's functions as functions from numbers to numbers. A whole number stands as it is, not as a float.
+// The Rust's functions as functions from numbers to numbers.
 
-use crate::fields::{cartesian, of_spherical, polar, spherical};
+use crate::common::fields::{cartesian, of_spherical, of_whole, polar, spherical, whole};
+use crate::common::places::rows;
 use a5::coordinate_systems::Radians;
 use a5::core::origin::{self, get_origins};
-use a5::projections::crs::{self, CRS};
+use a5::projections::crs;
 use a5::projections::dodecahedron::{self, DodecahedronProjection};
-
-// The float with the bits of a whole number, as the list has it, and back.
-pub fn whole(n: usize) -> f64 {
-    f64::from_bits(n as u64)
-}
-
-pub fn of_whole(x: f64) -> usize {
-    x.to_bits() as usize
-}
 
 fn projection() -> &'static mut DodecahedronProjection {
     DodecahedronProjection::get_thread_local()
@@ -42,8 +34,7 @@ pub fn face_triangle(x: [f64; 2]) -> [f64; 2] {
 }
 
 pub fn frame(x: [f64; 1]) -> [f64; 3] {
-    let crs = CRS::new().expect("the frame has 62 rows");
-    crs.oracle_rows()[of_whole(x[0])].into()
+    rows()[of_whole(x[0])]
 }
 
 pub fn haversine(x: [f64; 4]) -> [f64; 1] {
