@@ -4,6 +4,10 @@ impl CRS {
     pub fn oracle_rows(&self) -> &[Cartesian] {
         &self.vertices
     }
+
+    pub fn oracle_with(vertices: Vec<Cartesian>) -> CRS {
+        CRS { vertices }
+    }
 }
 
 pub fn oracle_transform_quat(v: Cartesian, q: [f64; 4]) -> Cartesian {

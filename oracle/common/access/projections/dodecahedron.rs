@@ -22,6 +22,40 @@ impl DodecahedronProjection {
         self.get_face_triangle(index, reflected, squashed)
             .expect("a triangle")
     }
+
+    pub fn oracle_spherical_triangle(
+        &mut self,
+        index: usize,
+        origin: OriginId,
+        reflected: bool,
+    ) -> SphericalTriangle {
+        self.get_spherical_triangle(index, origin, reflected)
+            .expect("a triangle")
+    }
+
+    // As new does, but with a frame and caches of the oracle's.
+    pub fn oracle_with(
+        crs: CRS,
+        face_triangles: Vec<Option<FaceTriangle>>,
+        spherical_triangles: Vec<Option<SphericalTriangle>>,
+    ) -> Self {
+        let equal_area = EqualAreaProjection::new(crs.get_canonical_triangle());
+        DodecahedronProjection {
+            face_triangles,
+            spherical_triangles,
+            equal_area,
+            gnomonic: GnomonicProjection,
+            crs,
+        }
+    }
+
+    pub fn oracle_face_triangles(&self) -> &[Option<FaceTriangle>] {
+        &self.face_triangles
+    }
+
+    pub fn oracle_spherical_triangles(&self) -> &[Option<SphericalTriangle>] {
+        &self.spherical_triangles
+    }
 }
 
 pub fn oracle_transform_quat(v: Cartesian, q: [f64; 4]) -> Cartesian {

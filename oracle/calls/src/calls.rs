@@ -1,0 +1,138 @@
+// The four calls on a set. What is worked out is the Rust's: its own forward and inverse, with the set's frame and triangles
+// in it. The refusals and what stands in the stores afterwards are document 01's, under its words.
+
+use crate::common::fields::{
+    lon_lat, of_spherical, of_spherical_triangle, of_triangle, of_whole, spherical, whole,
+};
+use crate::common::refusals::{check, finite, lengths};
+use crate::set::{new_projection, Set};
+use a5::coordinate_systems::{Face, Spherical};
+use a5::core::coordinate_transforms::{from_lon_lat, to_lon_lat};
+use a5::core::origin::find_nearest_origin;
+use a5::projections::dodecahedron::DodecahedronProjection;
+
+#[derive(Clone, Copy, Debug, PartialEq)]
+pub enum Call {
+    Forward,
+    Inverse,
+    Place,
+    Unplace,
+}
+
+pub use Call::{Forward, Inverse, Place, Unplace};
+
+// What the Rust's projection is asked, once the call has looked at its arguments.
+enum Question {
+    Forward(Spherical, u8),
+    Inverse(Face, u8),
+}
+
+fn pair(x: &[f64]) -> [f64; 2] {
+    [x[0], x[1]]
+}
+
+// "4: origin id above 11."
+fn origin(x: f64) -> Result<u8, u8> {
+    match of_whole(x) {
+        id @ 0..=11 => Ok(id as u8),
+        _ => Err(4),
+    }
+}
+
+// "Those that apply are tried in table order, but each number is tried for 5 and then 6 before the next one: longitude,
+// latitude; theta, phi; x, y." "Place is from_lon_lat, find_nearest_origin, forward; unplace is inverse, to_lon_lat."
+fn question(call: Call, x: &[f64]) -> Result<Question, u8> {
+    match call {
+        Forward => {
+            let id = origin(x[2])?;
+            check(pair(x), [8.0, 8.0])?;
+            Ok(Question::Forward(spherical(pair(x)), id))
+        }
+        Inverse | Unplace => {
+            let id = origin(x[2])?;
+            check(pair(x), [4.0, 4.0])?;
+            Ok(Question::Inverse(Face::new(x[0], x[1]), id))
+        }
+        Place => {
+            check(pair(x), [360.0, 90.0])?;
+            let position = from_lon_lat(lon_lat(pair(x)));
+            let id = find_nearest_origin(position).id;
+            Ok(Question::Forward(position, id))
+        }
+    }
+}
+
+// "8: a triangle that must be built has no frame vertex": it is all that the Rust can fail by here.
+fn ask(rust: &mut DodecahedronProjection, question: &Question) -> Result<[f64; 2], u8> {
+    match question {
+        Question::Forward(position, id) => rust
+            .forward(*position, *id)
+            .map(<[f64; 2]>::from)
+            .map_err(|_| 8),
+        Question::Inverse(point, id) => rust.inverse(*point, *id).map(of_spherical).map_err(|_| 8),
+    }
+}
+
+// The final answer. "5, 6 and 9 look there only at the composition's own arguments and its final answer."
+fn answer(call: Call, question: &Question, worked: [f64; 2]) -> Result<Vec<f64>, u8> {
+    let mut answer = worked;
+    if call == Unplace {
+        let back = to_lon_lat(spherical(worked));
+        answer = [back.longitude(), back.latitude()];
+    }
+    finite(answer)?;
+    match (call, question) {
+        (Place, Question::Forward(_, id)) => Ok(vec![whole(*id as usize), answer[0], answer[1]]),
+        _ => Ok(answer.to_vec()),
+    }
+}
+
+fn places<T>(cache: &[Option<T>]) -> Vec<usize> {
+    (0..cache.len()).filter(|i| cache[*i].is_some()).collect()
+}
+
+// The face slots and the sphere slot that a call uses: those that a new projection of the Rust fills. "An unreflected call
+// uses face slot i and its sphere slot; a reflected one uses 10+i, 20+i and its sphere slot."
+fn used(question: &Question) -> (Vec<usize>, usize) {
+    let mut rust = new_projection();
+    ask(&mut rust, question).expect("an opened set has every vertex");
+    let faces = places(rust.oracle_face_triangles());
+    let spheres = places(rust.oracle_spherical_triangles());
+    assert!(faces.len() == 1 && faces[0] < 10 || faces.len() == 2 && faces[1] == faces[0] + 10);
+    assert_eq!(spheres.len(), 1);
+    (faces, spheres[0])
+}
+
+// "Empty used slots are written on success." The triangles are those that the Rust has by then; a slot 20+i that it did not
+// need, since its sphere slot was filled, it is asked for.
+fn keep(set: &mut Set, rust: &mut DodecahedronProjection, question: &Question) {
+    let (faces, sphere) = used(question);
+    for slot in faces {
+        if set.face_slot(slot).is_none() {
+            let t = rust.oracle_face_triangle(slot % 10, slot >= 10, slot >= 20);
+            set.fill_face(slot, &of_triangle(t));
+        }
+    }
+    if set.sphere_slot(sphere).is_none() {
+        let t = rust.oracle_spherical_triangles()[sphere].expect("the call took it");
+        set.fill_sphere(sphere, &of_spherical_triangle(t));
+    }
+}
+
+// A call on a set of which so many numbers are lent. "A refusal leaves every lent buffer bit for bit unchanged."
+pub fn call(call: Call, set: &mut Set, lent: [usize; 3], x: &[f64]) -> Result<Vec<f64>, u8> {
+    lengths(lent)?;
+    let question = question(call, x)?;
+    let mut rust = set.projection();
+    let worked = ask(&mut rust, &question)?;
+    let answer = answer(call, &question, worked)?;
+    keep(set, &mut rust, &question);
+    Ok(answer)
+}
+
+// The same answer from a projection that the Rust itself has kept since it was made, without marks and slots.
+pub fn of_kept(call: Call, rust: &mut DodecahedronProjection, x: &[f64]) -> Result<Vec<f64>, u8> {
+    let question = question(call, x)?;
+    let worked = ask(rust, &question)?;
+    answer(call, &question, worked)
+}

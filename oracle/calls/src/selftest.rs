@@ -1,0 +1,75 @@
+// What document 01 says of single points, tried on the given Rust with the steps in it.
+
+use crate::calls::{call, Forward, Inverse, Place, Unplace};
+use crate::common::fields::whole;
+use crate::script::RIGHT;
+use crate::set::{new_projection, Set};
+use a5::coordinate_systems::Face;
+use std::f64::consts::PI;
+
+// The session of "The strike program", on one set.
+fn session() {
+    let mut set = Set::opened();
+    let placed = call(Place, &mut set, RIGHT, &[-93.0, 90.0]);
+    assert_eq!(placed, Ok(vec![whole(0), 0.0, 0.0]));
+    let back = call(Unplace, &mut set, RIGHT, &[0.0, 0.0, whole(0)]);
+    assert_eq!(back, Ok(vec![-93.0, 90.0]));
+    let refused = call(Unplace, &mut set, RIGHT, &[0.0, 0.0, whole(12)]);
+    assert_eq!(refused, Err(4));
+}
+
+// The table's examples of 8 and 9, and the order of the others.
+fn refusals() {
+    let mut zeros = Set::filled_with([0.0; 3]);
+    let mut set = Set::opened();
+    assert_eq!(
+        call(Forward, &mut zeros, RIGHT, &[1.0, 1.0, whole(0)]),
+        Err(8)
+    );
+    assert_eq!(call(Forward, &mut set, RIGHT, &[0.0, PI, whole(0)]), Err(9));
+    let none = [0, 0, 0];
+    assert_eq!(
+        call(Inverse, &mut set, none, &[9.0, 9.0, whole(12)]),
+        Err(1)
+    );
+    let broken = [f64::NAN, 0.0, whole(12)];
+    assert_eq!(call(Inverse, &mut set, RIGHT, &broken), Err(4));
+    let broken = [5.0, f64::NAN, whole(11)];
+    assert_eq!(call(Inverse, &mut set, RIGHT, &broken), Err(6));
+    assert!(set.face.iter().all(|x| *x == 0.0));
+}
+
+// "An unreflected call uses face slot i and its sphere slot; a reflected one uses 10+i, 20+i and its sphere slot", also where
+// its sphere slot is filled.
+fn slots() {
+    let mut set = Set::opened();
+    let filled = |set: &Set| -> (Vec<usize>, Vec<usize>) {
+        let faces = (0..30).filter(|k| set.face_slot(*k).is_some());
+        let spheres = (0..240).filter(|k| set.sphere_slot(*k).is_some());
+        (faces.collect(), spheres.collect())
+    };
+    call(Inverse, &mut set, RIGHT, &[0.3, 0.1, whole(4)]).expect("an answer");
+    assert_eq!(filled(&set), (vec![0], vec![40]));
+    let mut set = Set::opened();
+    let reflected = [0.8, 0.1, whole(4)];
+    call(Inverse, &mut set, RIGHT, &reflected).expect("an answer");
+    assert_eq!(filled(&set), (vec![10, 20], vec![160]));
+    set.face.fill(0.0);
+    call(Inverse, &mut set, RIGHT, &reflected).expect("an answer");
+    assert_eq!(filled(&set), (vec![10, 20], vec![160]));
+}
+
+// "In the Rust, inverse with ids 12 to 23 may find a reflected triangle of another origin in the cache; here it is 4."
+fn cache_accident() {
+    let mut rust = new_projection();
+    assert!(rust.inverse(Face::new(0.0, 0.0), 12).is_err());
+    rust.inverse(Face::new(0.7, 0.0), 0).expect("an answer");
+    assert!(rust.inverse(Face::new(0.0, 0.0), 12).is_ok());
+}
+
+pub fn run() {
+    session();
+    refusals();
+    slots();
+    cache_accident();
+}

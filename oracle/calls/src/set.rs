@@ -1,0 +1,104 @@
+// A set of document 01 as three lists of numbers, and the Rust's projection with that frame and those triangles.
+
+use crate::common::fields::{
+    cartesian, of_spherical_triangle, of_triangle, spherical_triangle, triangle,
+};
+use crate::common::places::rows;
+use crate::common::refusals::{FACE_STORE, FRAME, SPHERE_STORE};
+use a5::projections::crs::CRS;
+use a5::projections::dodecahedron::DodecahedronProjection;
+
+pub const FACE_SLOTS: usize = 30;
+pub const FACE_WIDTH: usize = 7;
+pub const SPHERE_SLOTS: usize = 240;
+pub const SPHERE_WIDTH: usize = 10;
+
+#[derive(Clone)]
+pub struct Set {
+    pub frame: Vec<f64>,
+    pub face: Vec<f64>,
+    pub sphere: Vec<f64>,
+}
+
+pub fn new_projection() -> DodecahedronProjection {
+    DodecahedronProjection::new().expect("the frame has 62 rows")
+}
+
+// "A slot's first number is its mark: 1.0 is filled, anything else is empty. Six or nine coordinates follow."
+pub fn filled(store: &[f64], width: usize, slot: usize) -> Option<&[f64]> {
+    let numbers = &store[slot * width..(slot + 1) * width];
+    (numbers[0] == 1.0).then_some(&numbers[1..])
+}
+
+fn fill(store: &mut [f64], width: usize, slot: usize, coordinates: &[f64]) {
+    store[slot * width] = 1.0;
+    store[slot * width + 1..(slot + 1) * width].copy_from_slice(coordinates);
+}
+
+impl Set {
+    // "Open writes the frame and fills both stores with 0.0."
+    pub fn opened() -> Set {
+        Set {
+            frame: rows().concat(),
+            face: vec![0.0; FACE_STORE],
+            sphere: vec![0.0; SPHERE_STORE],
+        }
+    }
+
+    pub fn filled_with(numbers: [f64; 3]) -> Set {
+        Set {
+            frame: vec![numbers[0]; FRAME],
+            face: vec![numbers[1]; FACE_STORE],
+            sphere: vec![numbers[2]; SPHERE_STORE],
+        }
+    }
+
+    // The opened set with every slot filled, by the Rust.
+    pub fn defined() -> Set {
+        let mut set = Set::opened();
+        let mut rust = new_projection();
+        for slot in 0..FACE_SLOTS {
+            let t = rust.oracle_face_triangle(slot % 10, slot >= 10, slot >= 20);
+            set.fill_face(slot, &of_triangle(t));
+        }
+        for slot in 0..SPHERE_SLOTS {
+            let origin = (slot % 120 / 10) as u8;
+            let t = rust.oracle_spherical_triangle(slot % 10, origin, slot >= 120);
+            set.fill_sphere(slot, &of_spherical_triangle(t));
+        }
+        set
+    }
+
+    pub fn fill_face(&mut self, slot: usize, coordinates: &[f64]) {
+        fill(&mut self.face, FACE_WIDTH, slot, coordinates);
+    }
+
+    pub fn fill_sphere(&mut self, slot: usize, coordinates: &[f64]) {
+        fill(&mut self.sphere, SPHERE_WIDTH, slot, coordinates);
+    }
+
+    pub fn face_slot(&self, slot: usize) -> Option<&[f64]> {
+        filled(&self.face, FACE_WIDTH, slot)
+    }
+
+    pub fn sphere_slot(&self, slot: usize) -> Option<&[f64]> {
+        filled(&self.sphere, SPHERE_WIDTH, slot)
+    }
+
+    pub fn is_full(&self) -> bool {
+        let faces = (0..FACE_SLOTS).all(|slot| self.face_slot(slot).is_some());
+        faces && (0..SPHERE_SLOTS).all(|slot| self.sphere_slot(slot).is_some())
+    }
+
+    // The Rust with this frame, whose constants it then takes from there, and with the filled slots in its caches. "A filled
+    // slot is read as it stands, even if foreign hands wrote it."
+    pub fn projection(&self) -> DodecahedronProjection {
+        let faces = (0..FACE_SLOTS).map(|slot| self.face_slot(slot).map(triangle));
+        let spheres = (0..SPHERE_SLOTS).map(|slot| self.sphere_slot(slot).map(spherical_triangle));
+        DodecahedronProjection::oracle_with(
+            CRS::oracle_with(self.frame.chunks(3).map(cartesian).collect()),
+            faces.collect(),
+            spheres.collect(),
+        )
+    }
+}
