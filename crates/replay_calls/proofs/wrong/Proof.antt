@@ -1,0 +1,14 @@
+-- `wrong` meets its contract. Assumes nothing.
+use native.Mathlib.Omega.{arith}
+use borrow.Author.Needs.{needs}
+use Rattle.replay_calls.proofs.wrong.Statement.{statement}
+use Rattle.replay_calls.proofs.wrong.Tie as tie
+
+returns-3 : tie.Need-returns-3
+returns-3 c =
+    (λ e. c .before .before .before .before .unlike .ensures (omega arith), (λ e. c .before .before .unlike2 .ensures (omega arith), λ e. c .unlike3 .ensures e))
+
+pub wrong-spec : {M : Type 1} → statement M
+wrong-spec =
+    tie.close
+    (tie.spec (λ c κs. search needs) (λ c. search needs) (λ c κs. search needs) (λ c. search needs) (λ c κs. search needs) returns-3)

@@ -1,0 +1,19 @@
+// Places are counted over the three buffers of a set: the frame, then the face store, then the sphere store, each with one number
+// more than a set has, so that one too many can be lent, and what lies behind is looked at.
+pub const FRAME: usize = 187;
+
+pub const FACE_STORE: usize = 211;
+
+pub const SPHERE_STORE: usize = 2401;
+
+pub const FACE_AT: usize = FRAME;
+
+pub const SPHERE_AT: usize = FACE_AT + FACE_STORE;
+
+// The notes: first what the set should hold, then what the Rust has for an opened set with every slot filled.
+pub const DEFINED_AT: usize = SPHERE_AT + SPHERE_STORE;
+
+pub const NOTES: usize = 2 * DEFINED_AT;
+
+// The refusal of a record that asks for a place that there is not. No call has it, so that the record is shown.
+pub const NO_SUCH_PLACE: u8 = 255;
