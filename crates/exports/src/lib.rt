@@ -7,6 +7,7 @@
 // The caller sees to it that a pointer is not null, that so many numbers stand there, and that no
 // two that are lent overlap.
 pub mod calls;
+pub mod slots;
 
 use coordinates::base::Degrees;
 use coordinates::base::Radians;

@@ -1,0 +1,29 @@
+-- `slots::coordinates` meets its contract. Assumes nothing.
+use mathlib.Core.Path.{refl}
+use native.Mathlib.Omega.{arith}
+use borrow.Author.Needs.{needs}
+use Rattle.exports.proofs.slots.coordinates.Statement.{statement}
+use Rattle.exports.proofs.slots.coordinates.Tie as tie
+
+mul-t4 : tie.Need-mul-t4
+mul-t4 c = omega (arith, rw (c .enum-told .given .1) at (c .before .before .pre))
+
+add-t5 : tie.Need-add-t5
+add-t5 c = omega (arith, rw (c .enum-told .given .1) at (c .before .before .pre))
+
+mul-t7 : tie.Need-mul-t7
+mul-t7 c = omega (arith, rw (c .enum-told2 .given .1) at (c .before .before .pre))
+
+add-t8 : tie.Need-add-t8
+add-t8 c = omega (arith, rw (c .enum-told2 .given .1) at (c .before .before .pre))
+
+returns : tie.Need-returns
+returns c = rw (c .enum-told .given .1) refl
+
+returns-2 : tie.Need-returns-2
+returns-2 c = rw (c .enum-told2 .given .1) refl
+
+pub coordinates-spec : {M : Type 1} → statement M
+coordinates-spec =
+    tie.close
+    (tie.spec (λ c. search needs) mul-t4 add-t5 (λ c. search needs) (λ c. search needs) mul-t7 add-t8 (λ c. search needs) returns returns-2)

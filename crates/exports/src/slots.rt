@@ -1,0 +1,87 @@
+// Show and its companion as C functions. Show's part is an offset and a length in the store named.
+use set::sizes::FACE_WIDTH;
+use set::sizes::SPHERE_WIDTH;
+use show::SlotState;
+use show::StoreKind;
+ghost use mathlib.Core.Path.{_≡_};
+ghost use Prim.Native.Nat.{_<_};
+ghost use Rattle.show.specs.Show.{slotGiven, slotsIn};
+ghost use Rattle.exports.specs.Calls.{status};
+ghost use Rattle.exports.specs.Slots.{storeNamed, coordinatesIn, filledAfter, partAfter};
+
+// 0 names the face store and every other number the sphere store, as C reads a truth value:
+// document 01 has no refusal for a kind that is neither.
+fn store_named(kind: u8) -> StoreKind
+    ensures { λ r. ⌜ r ≡ storeNamed kind ⌝ }
+{
+    match kind == 0 {
+        true => StoreKind::Face,
+        false => StoreKind::Sphere,
+    }
+}
+
+// The companion: 1 goes to filled where the slot is filled, and 0 where it is empty.
+#[no_mangle]
+pub extern "C" fn a5_slot_state(
+    face: &[f64],
+    sphere: &[f64],
+    kind: u8,
+    slot: usize,
+    filled: &mut u8,
+) -> u8
+    ensures { λ r. ⌜ r ≡ status (slotGiven (now (face .entry)) (now (sphere .entry)) (storeNamed kind) slot) ⌝ }
+    ensures { λ _. ⌜ now (filled .exit) ≡ filledAfter (slotGiven (now (face .entry)) (now (sphere .entry)) (storeNamed kind) slot) (now (filled .entry)) ⌝ }
+{
+    let named = store_named(kind);
+    let given = show::slot_state(face, sphere, named, slot);
+    match given {
+        SlotState::Filled => {
+            *filled = 1;
+            0
+        }
+        SlotState::Empty => {
+            *filled = 0;
+            0
+        }
+        SlotState::Refused(n) => answer::number(n),
+    }
+}
+
+// Where a slot's coordinates are in its store: from behind the mark on, and how many.
+fn coordinates(named: StoreKind, slot: usize) -> [usize; 2]
+    requires { ⌜ slot < slotsIn named ⌝ }
+    ensures { λ r. ⌜ r ≡ coordinatesIn named slot ⌝ }
+{
+    match named {
+        StoreKind::Face => [slot * FACE_WIDTH + 1, FACE_WIDTH - 1],
+        StoreKind::Sphere => [slot * SPHERE_WIDTH + 1, SPHERE_WIDTH - 1],
+    }
+}
+
+// Show: the offset and the length of a filled slot's coordinates go to part, and 0 and 0 where the
+// slot is empty.
+#[no_mangle]
+pub extern "C" fn a5_show(
+    face: &[f64],
+    sphere: &[f64],
+    kind: u8,
+    slot: usize,
+    part: &mut [usize; 2],
+) -> u8
+    ensures { λ r. ⌜ r ≡ status (slotGiven (now (face .entry)) (now (sphere .entry)) (storeNamed kind) slot) ⌝ }
+    ensures { λ _. ⌜ now (part .exit) ≡ partAfter (slotGiven (now (face .entry)) (now (sphere .entry)) (storeNamed kind) slot) (storeNamed kind) slot (now (part .entry)) ⌝ }
+{
+    let named = store_named(kind);
+    let given = show::slot_state(face, sphere, named, slot);
+    match given {
+        SlotState::Filled => {
+            *part = coordinates(named, slot);
+            0
+        }
+        SlotState::Empty => {
+            *part = [0, 0];
+            0
+        }
+        SlotState::Refused(n) => answer::number(n),
+    }
+}
