@@ -14,13 +14,13 @@ use Rattle.dodecahedron.specs.Slots.{sphereRun}
 use Rattle.dodecahedron.specs.Triangles.{sphereSlot}
 use Rattle.dodecahedron.specs.Calls.{keepFace, keepFaces, keepSphere, faceAfter, sphereAfter}
 use Rattle.dodecahedron.specs.declared.used.Used.{Used}
-use Rattle.histories.specs.Lists.{Buffers, Effect, writes, uses, reads}
+use Rattle.histories.specs.Lists.{Buffers, Call, opens, forwards, inverses, places, unplaces, shows, asks, Effect, writes, uses, reads, effect}
 use Rattle.histories.specs.Since.{facesAt, facesOf, spheresOf}
-use Rattle.histories.specs.EveryList.{Untouched, isOpens}
+use Rattle.histories.specs.EveryList.{Untouched}
 use Rattle.histories.proofs.Runs.{other-place}
 use Rattle.histories.proofs.Stores.{keep-length, keep-outside}
 use Rattle.histories.proofs.Taken.{faceCoordinates, sphere-below}
-use Rattle.histories.proofs.Uses.{Fits}
+use Rattle.histories.proofs.Uses.{Fits, effect-fits}
 
 neither : (a b : Bool) → (a || b) ≡ false → (a ≡ false) × (b ≡ false)
 neither true b e = absurd (true≢false e)
@@ -51,7 +51,21 @@ module _ (xs : List Float) (l : length xs ≡ FACE-STORE) (i : ℕ) (h : i < 10)
       face-outside (keepFace ieee xs (i + 10)) (a ∙ l) (i + 20) (omega arith) p (eqb-false (p / FACE-WIDTH) (i + 20) (n .1))
       ∙ face-outside xs l (i + 10) (omega arith) p (eqb-false (p / FACE-WIDTH) (i + 10) (n .0))
 
--- ---- a call that uses slots
+-- ---- a call that is not open
+
+abbrev isOpens : Effect → Bool
+isOpens (writes g) = true
+isOpens (uses g) = false
+isOpens reads = false
+
+not-open : (s : Buffers) (c : Call) → (c ≡ opens → ⊥) → isOpens (effect s c) ≡ false
+not-open s opens other = absurd (other refl)
+not-open s (forwards p o) other = refl
+not-open s (inverses f o) other = refl
+not-open s (places p) other = refl
+not-open s (unplaces f o) other = refl
+not-open s (shows kind k) other = refl
+not-open s (asks kind k) other = refl
 
 module _ (s : Buffers) where
   face-kept : (g : Given Used) → Fits s (uses g)
@@ -73,10 +87,13 @@ module _ (s : Buffers) where
         λ i e. keep-outside SPHERE-WIDTH (s .sphere) k (sphereRun (u .triangle)) refl (omega (arith, below, on .sphere-long)) i (other-place SPHERE-WIDTH k i (omega arith) (eqb-false (i / SPHERE-WIDTH) k e)),
       )
 
-  pub untouched : (e : Effect) → Fits s e → isOpens e ≡ false → Untouched s e
-  untouched (writes g) fits is = absurd (true≢false is)
-  untouched (uses g) fits is =
+  by-effect : (e : Effect) → Fits s e → isOpens e ≡ false → Untouched s e
+  by-effect (writes g) fits is = absurd (true≢false is)
+  by-effect (uses g) fits is =
       let a = face-kept g fits in
       let b = sphere-kept g fits in
       record { frame = refl; face-length = a .0; face = a .1; sphere-length = b .0; sphere = b .1 }
-  untouched reads fits is = record { frame = refl; face-length = refl; face = λ i e. refl; sphere-length = refl; sphere = λ i e. refl }
+  by-effect reads fits is = record { frame = refl; face-length = refl; face = λ i e. refl; sphere-length = refl; sphere = λ i e. refl }
+
+  pub untouched : (c : Call) → (c ≡ opens → ⊥) → Untouched s (effect s c)
+  untouched c other = by-effect (effect s c) (effect-fits s c) (not-open s c other)

@@ -11,7 +11,7 @@ use Rattle.elementary.specs.Constants.{1·0}
 use Rattle.coordinates.specs.declared.coords.SphericalTriangle.{SphericalTriangle}
 use Rattle.set.specs.Sizes.{FACE-WIDTH, SPHERE-WIDTH}
 use Rattle.dodecahedron.specs.Slots.{sphereRun}
-use Rattle.histories.specs.Lists.{Buffers, openOn, effect}
+use Rattle.histories.specs.Lists.{Buffers, openOn}
 use Rattle.histories.specs.Since.{newly}
 use Rattle.histories.specs.Defined.{slotAt}
 use Rattle.histories.specs.EveryList.{opened, left, sinceOpen, Demand3}
@@ -19,7 +19,6 @@ use Rattle.histories.proofs.Runs.{length-run}
 use Rattle.histories.proofs.Stores.{slotOf, slot-filled}
 use Rattle.histories.proofs.Taken.{Good, fresh-good, faceCoordinates, runOf, sphereCoordinates}
 use Rattle.histories.proofs.Answers.{same-answers}
-use Rattle.histories.proofs.Uses.{effect-fits}
 use Rattle.histories.proofs.Steps.{run-good}
 use Rattle.histories.proofs.Outside.{untouched}
 
@@ -54,6 +53,6 @@ every-list b e cs =
       face-length = good .face-long;
       sphere-length = good .sphere-long;
       frame = good .frame;
-      outside = λ s c is. untouched s (effect s c) (effect-fits s c) is;
+      outside = untouched;
       shown = λ s kind k. (refl, refl);
     }

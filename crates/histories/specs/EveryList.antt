@@ -1,7 +1,7 @@
 -- Demand 3, as one claim about every list of calls. Definitions only; `proofs/Theorem` proves it.
 use Prim.Native.Nat.{ℕ, _*_, _/_, _<_}
 use mathlib.Core.Path.{_≡_}
-use mathlib.Core.Bool.{Bool, true, false}
+use mathlib.Core.Bool.{true, false}
 use mathlib.Core.List.{List, _∷_}
 use lib.ListN.{length, getD, replicate}
 use lib.Ieee.{nan}
@@ -17,7 +17,7 @@ use Rattle.set.specs.Sizes.{FACE-SLOTS, FACE-WIDTH, FACE-STORE, SPHERE-SLOTS, S
 use Rattle.dodecahedron.specs.Slots.{filled, faceRun, sphereRun}
 use Rattle.dodecahedron.specs.Calls.{answerOf}
 use Rattle.show.specs.declared.StoreKind.{StoreKind}
-use Rattle.histories.specs.Lists.{Buffers, Call, opens, shows, asks, openOn, forwardOn, inverseOn, placeOn, unplaceOn, Effect, writes, uses, reads, effect, after, step, run}
+use Rattle.histories.specs.Lists.{Buffers, Call, opens, shows, asks, openOn, forwardOn, inverseOn, placeOn, unplaceOn, Effect, effect, after, step, run}
 use Rattle.histories.specs.Since.{Since, newly, since, facesUsed, spheresUsed}
 use Rattle.histories.specs.Defined.{slotAt, sphereDefined}
 
@@ -35,12 +35,6 @@ pub record Untouched (s : Buffers) (e : Effect) : Type 0 where
   pub face : (i : ℕ) → facesUsed e (i / FACE-WIDTH) ≡ false → getD (after s e .face) i nan ≡ getD (s .face) i nan
   pub sphere-length : length (after s e .sphere) ≡ length (s .sphere)
   pub sphere : (i : ℕ) → spheresUsed e (i / SPHERE-WIDTH) ≡ false → getD (after s e .sphere) i nan ≡ getD (s .sphere) i nan
-
--- whether it is open's
-abbrev pub isOpens : Effect → Bool
-isOpens (writes g) = true
-isOpens (uses g) = false
-isOpens reads = false
 
 -- The set that open leaves on the buffers b. Where open answers it is "a newly opened set".
 abbrev pub opened : Buffers → Buffers
@@ -72,7 +66,7 @@ pub record EveryList (b : Buffers) (cs : List Call) : Type 0 where
   -- "and the frame is as that open wrote it"
   pub frame : left b cs .frame ≡ sinceOpen b cs .frame
   -- "No call but open writes to the set outside the slots it uses": whatever the buffers hold, and whoever wrote it
-  pub outside : (s : Buffers) (c : Call) → isOpens (effect s c) ≡ false → Untouched s (effect s c)
+  pub outside : (s : Buffers) (c : Call) → (c ≡ opens → ⊥) → Untouched s (effect s c)
   -- show and its companion write nothing
   pub shown : (s : Buffers) (kind : StoreKind) (k : ℕ) → (step s (shows kind k) ≡ s) × (step s (asks kind k) ≡ s)
 
