@@ -1,0 +1,101 @@
+// Lists of calls on one set, beside a second one that gathers what the calls write on newly opened sets.
+use crate::call::Call;
+use crate::call::perform;
+use crate::counts::count;
+use crate::counts::count_outcome;
+use crate::draw::draw;
+use crate::due::expected;
+use crate::stores::same;
+use set::open::open;
+
+// One call on the set, compared: what it comes to, and every number of the set after it.
+fn turn(
+    call: Call,
+    frame: &mut [f64; 186],
+    face: &mut [f64; 210],
+    sphere: &mut [f64; 2400],
+    due_frame: &mut [f64; 186],
+    due_face: &mut [f64; 210],
+    due_sphere: &mut [f64; 2400],
+    compared: &mut [u64; 32],
+    differ: &mut [u64; 32],
+) {
+    let given = perform(frame, face, sphere, call);
+    let due = expected(due_frame, due_face, due_sphere, call);
+    count_outcome(call, given, due, compared, differ);
+    let as_due = same(frame, due_frame) && same(face, due_face) && same(sphere, due_sphere);
+    count(3, as_due, compared, differ);
+}
+
+// A list of so many calls, open once in so many of them, or never for 0.
+fn list(
+    seed: &mut u64,
+    calls: u32,
+    opens: u64,
+    frame: &mut [f64; 186],
+    face: &mut [f64; 210],
+    sphere: &mut [f64; 2400],
+    due_frame: &mut [f64; 186],
+    due_face: &mut [f64; 210],
+    due_sphere: &mut [f64; 2400],
+    compared: &mut [u64; 32],
+    differ: &mut [u64; 32],
+) {
+    let mut left = calls;
+    while left > 0 {
+        let call = draw(seed, opens);
+        turn(
+            call,
+            frame,
+            face,
+            sphere,
+            due_frame,
+            due_face,
+            due_sphere,
+            compared,
+            differ,
+        );
+        left -= 1;
+    }
+}
+
+// A list with many opens, and then one with none, which fills every slot.
+pub(crate) fn run(
+    frame: &mut [f64; 186],
+    face: &mut [f64; 210],
+    sphere: &mut [f64; 2400],
+    compared: &mut [u64; 32],
+    differ: &mut [u64; 32],
+) {
+    let mut seed: u64 = 0x0123_4567_89ab_cdef;
+    let mut f = [0.0; 186];
+    let mut g = [0.0; 210];
+    let mut h = [0.0; 2400];
+    open(&mut f, &mut g, &mut h);
+    list(
+        &mut seed,
+        4000,
+        50,
+        frame,
+        face,
+        sphere,
+        &mut f,
+        &mut g,
+        &mut h,
+        compared,
+        differ,
+    );
+    list(
+        &mut seed,
+        16000,
+        0,
+        frame,
+        face,
+        sphere,
+        &mut f,
+        &mut g,
+        &mut h,
+        compared,
+        differ,
+    );
+}

@@ -1,0 +1,80 @@
+// Runs long lists of calls on one set, drawn from a fixed seed, refused ones among them. Each forward, inverse, place
+// and unplace is made on a newly opened set too, and must come to the same there, bit for bit. A second set gathers what
+// those calls have written: after each call the first one must equal it in every number. Last, the oracle's list
+// (oracle/README.md) is read from standard input, and each of its vertices compared with what show hands back.
+mod call;
+mod counts;
+mod draw;
+mod due;
+mod lists;
+mod stores;
+mod vertices;
+
+use set::open::open;
+use replay::record;
+use replay::record::Next;
+use replay::report;
+use replay::tally;
+
+// Reads one record and compares its vertex. Answers whether there was one.
+fn replay_next<'a>(
+    names: &[u8],
+    face: &'a [f64; 210],
+    sphere: &'a [f64; 2400],
+    compared: &mut [u64; 32],
+    differ: &mut [u64; 32],
+) -> bool {
+    let mut words = [0u8; 96];
+    let next = record::read(b"022", &mut words);
+    let Next::Record(head) = next else {
+        return false;
+    };
+    let given = vertices::vertex(head.number, face, sphere, &words);
+    tally::compare(names, head, &words, given, compared, differ);
+    true
+}
+
+// Nothing says that the input ends, so the loop counts its records down from more than any list has.
+fn replay_all<'a>(
+    names: &[u8],
+    face: &'a [f64; 210],
+    sphere: &'a [f64; 2400],
+    compared: &mut [u64; 32],
+    differ: &mut [u64; 32],
+) {
+    let mut left: u32 = 0xffff_ffff;
+    while left > 0 && replay_next(names, face, sphere, compared, differ) {
+        left -= 1;
+    }
+    if left == 0 {
+        report::too_long();
+    }
+}
+
+// What the set holds before open: a number that is no mark, and that no call writes.
+const FOREIGN: f64 = 7.5;
+
+// The names stand in the order of the counts.
+fn run(names: &[u8]) {
+    let mut frame = [FOREIGN; 186];
+    let mut face = [FOREIGN; 210];
+    let mut sphere = [FOREIGN; 2400];
+    open(&mut frame, &mut face, &mut sphere);
+    let mut compared = [0u64; 32];
+    let mut differ = [0u64; 32];
+    lists::run(
+        &mut frame,
+        &mut face,
+        &mut sphere,
+        &mut compared,
+        &mut differ,
+    );
+    replay_all(names, &face, &sphere, &mut compared, &mut differ);
+    report::summaries(names, 15, &compared, &differ);
+}
+
+fn main() {
+    run(
+        b" face_vertex sphere_vertex set forward inverse place unplace companion forward_refused inverse_refused place_refused unplace_refused companion_refused open show",
+    );
+}
