@@ -1,0 +1,128 @@
+/*
+ * Twelve faces for regional maps: the calls of the proved library, for C and C++ on x86-64.
+ *
+ * Link with libexports.a, which `rt staticlib exports` writes, and with the C library's mathematics: -lexports -lm.
+ *
+ * Every call returns A5_ANSWERED (0), or the number of its refusal. An answer goes to the memory that is lent for it
+ * (to, id, filled, part). A refused call leaves everything lent as it was, bit for bit. Any number may be passed:
+ * what is outside the limits is refused, and every call ends.
+ *
+ * A set is three buffers of double that the caller owns: the frame, the face store and the sphere store. It is lent to
+ * each call, each buffer as a pointer and how many numbers there are. a5_open makes it ready; forward, inverse, place
+ * and unplace read it and fill slots of the stores, so that later calls are quicker. Their answers do not depend on
+ * which calls came before, as long as nothing else writes to the set. The library keeps nothing between calls and
+ * allocates nothing.
+ *
+ * What the caller owes, since no function can check it:
+ * - a pointer is not null, not even with length 0, and is aligned for what it points to;
+ * - as many numbers stand there as the length says (two behind `to` and `part`, one behind `id` and `filled`);
+ * - no two things that are lent to one call overlap;
+ * - a set is not used by two threads at once, unless both only show. Two sets are independent;
+ * - the processor is in C's usual floating-point state: rounding to nearest, subnormal numbers kept (no FTZ, no DAZ).
+ */
+#ifndef A5_H
+#define A5_H
+
+#include <stddef.h>
+#include <stdint.h>
+
+#ifdef __cplusplus
+extern "C" {
+#endif
+
+/* How many numbers each buffer of a set has. */
+#define A5_FRAME 186         /* 62 rows of 3 */
+#define A5_FACE_STORE 210    /* 30 slots of 7 */
+#define A5_SPHERE_STORE 2400 /* 240 slots of 10 */
+
+/* A slot is a mark, 1.0 where it is filled, and then the vertices a, b, c of a triangle, with two coordinates each in
+ * the face store and three in the sphere store. */
+#define A5_FACE_SLOTS 30
+#define A5_FACE_WIDTH 7
+#define A5_SPHERE_SLOTS 240
+#define A5_SPHERE_WIDTH 10
+
+/* Origins are numbered from 0 to 11. */
+#define A5_ORIGINS 12
+
+/* Ranges of the numbers passed, from -limit to limit, ends included. */
+#define A5_LONGITUDE_LIMIT 360.0 /* degrees */
+#define A5_LATITUDE_LIMIT 90.0   /* degrees */
+#define A5_ANGLE_LIMIT 8.0       /* theta and phi, radians */
+#define A5_FACE_LIMIT 4.0        /* face x and y */
+
+/* Store kinds. Every number names a store: 0 the face store, any other the sphere store. */
+#define A5_KIND_FACE 0
+#define A5_KIND_SPHERE 1
+
+/* What a call returns. Where several refusals apply, the one with the lowest number is given, except that each number
+ * passed is tried for 5 and then 6 before the next one. */
+enum a5_status {
+    A5_ANSWERED = 0,
+    A5_REFUSED_FRAME_LENGTH = 1,        /* the frame isn't 186 long */
+    A5_REFUSED_FACE_STORE_LENGTH = 2,   /* the face store isn't 210 long */
+    A5_REFUSED_SPHERE_STORE_LENGTH = 3, /* the sphere store isn't 2,400 long */
+    A5_REFUSED_UNKNOWN_ORIGIN = 4,      /* the origin's number is above 11 */
+    A5_REFUSED_NOT_FINITE = 5,          /* a number passed is infinite or NaN */
+    A5_REFUSED_OUT_OF_RANGE = 6,        /* a number passed is outside its range */
+    A5_REFUSED_FRAME_ROWS = 7,          /* open's frame hasn't 62 rows: no way to it is known */
+    A5_REFUSED_NO_VERTEX = 8,           /* a triangle that must be built has no frame vertex: not an opened set */
+    A5_REFUSED_ANSWER_NOT_FINITE = 9,   /* the answer would have a number that isn't finite */
+    A5_REFUSED_UNKNOWN_SLOT = 10,       /* no such slot: 30 or more (face), 240 or more (sphere) */
+    /* These three are the strike program's. No function here returns them. */
+    A5_REFUSED_HEADER = 11,      /* the input's header is missing, wrong or short */
+    A5_REFUSED_RECORD_KIND = 12, /* a record's kind isn't 1 or 2, or kind 1 with a non-zero origin byte */
+    A5_REFUSED_CUT_OFF = 13      /* the input ends inside a record */
+};
+
+/* Open: writes the frame and fills both stores with 0.0. Refusals: 1, 2, 3, 7. */
+uint8_t a5_open(double *frame, size_t frame_length, double *face, size_t face_length, double *sphere,
+                size_t sphere_length);
+
+/* Forward: from theta and phi, in radians (-8 to 8), to the face point x, y on the face of an origin (0 to 11).
+ * to[0] is x and to[1] is y. Writes the empty slots that it uses. Refusals: 1 to 6, 8, 9. */
+uint8_t a5_forward(const double *frame, size_t frame_length, double *face, size_t face_length, double *sphere,
+                   size_t sphere_length, double theta, double phi, uint8_t origin, double to[2]);
+
+/* Inverse: from a face point x, y (-4 to 4) on the face of an origin (0 to 11) to theta and phi, in radians.
+ * to[0] is theta and to[1] is phi. Writes the empty slots that it uses. Refusals: 1 to 6, 8, 9. */
+uint8_t a5_inverse(const double *frame, size_t frame_length, double *face, size_t face_length, double *sphere,
+                   size_t sphere_length, double x, double y, uint8_t origin, double to[2]);
+
+/* Place: from longitude (-360 to 360) and latitude (-90 to 90), in degrees, to the number of the nearest origin, which
+ * goes to id, and the face point on its face: to[0] is x and to[1] is y. Writes the empty slots that it uses.
+ * Refusals: 1, 2, 3, 5, 6, 8, 9. */
+uint8_t a5_place(const double *frame, size_t frame_length, double *face, size_t face_length, double *sphere,
+                 size_t sphere_length, double longitude, double latitude, uint8_t *id, double to[2]);
+
+/* Unplace: from a face point x, y (-4 to 4) on the face of an origin (0 to 11) to longitude and latitude, in degrees.
+ * to[0] is the longitude and to[1] the latitude. Writes the empty slots that it uses. Refusals: 1 to 6, 8, 9. */
+uint8_t a5_unplace(const double *frame, size_t frame_length, double *face, size_t face_length, double *sphere,
+                   size_t sphere_length, double x, double y, uint8_t origin, double to[2]);
+
+/* Show: where the coordinates of a filled slot are, in the store that kind names: part[0] is the offset, in numbers,
+ * and part[1] how many there are, 6 or 9. Both are 0 where the slot is empty. Only reads. Refusals: 2, 3, 10. */
+uint8_t a5_show(const double *face, size_t face_length, const double *sphere, size_t sphere_length, uint8_t kind,
+                size_t slot, size_t part[2]);
+
+/* Show's companion: filled becomes 1 where the slot is filled and 0 where it is empty. Only reads.
+ * Refusals: 2, 3, 10. */
+uint8_t a5_slot_state(const double *face, size_t face_length, const double *sphere, size_t sphere_length, uint8_t kind,
+                      size_t slot, uint8_t *filled);
+
+/* Nearest: the number of the origin nearest to theta and phi, in radians (-8 to 8), goes to id. Refusals: 5, 6. */
+uint8_t a5_nearest(double theta, double phi, uint8_t *id);
+
+/* From longitude (-360 to 360) and latitude (-90 to 90), in degrees, to the authalic sphere: to[0] is theta and to[1]
+ * is phi, in radians. Refusals: 5, 6, 9. */
+uint8_t a5_from_lon_lat(double longitude, double latitude, double to[2]);
+
+/* From theta and phi on the authalic sphere, in radians (-8 to 8), to longitude and latitude, in degrees: to[0] is the
+ * longitude and to[1] the latitude. Refusals: 5, 6, 9. */
+uint8_t a5_to_lon_lat(double theta, double phi, double to[2]);
+
+#ifdef __cplusplus
+}
+#endif
+
+#endif

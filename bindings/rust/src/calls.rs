@@ -1,0 +1,232 @@
+//! The calls on slices. A set is the frame, the face store and the sphere store, lent in this order; a slice of another
+//! length than it should have is refused.
+//!
+//! Every `unsafe` here is sound for one reason. The library's functions take every number and all contents. Beside that
+//! they are owed pointers that are aligned and not null, with as many numbers behind them as the length says, and that
+//! nothing lent overlaps or is used elsewhere meanwhile: Rust's references and slices are just that.
+
+use crate::raw;
+use crate::{Face, LonLat, Place, Refusal, Spherical, Store};
+
+// 0 is an answer. The library is proved to return a number of the table otherwise.
+fn given<T>(status: u8, answer: T) -> Result<T, Refusal> {
+    match status {
+        0 => Ok(answer),
+        n => Err(Refusal::from_number(n).expect("a number of document 01's table")),
+    }
+}
+
+fn kind(store: Store) -> u8 {
+    match store {
+        Store::Face => 0,
+        Store::Sphere => 1,
+    }
+}
+
+/// Writes the frame and fills both stores with 0.0.
+pub fn open(frame: &mut [f64], face: &mut [f64], sphere: &mut [f64]) -> Result<(), Refusal> {
+    let status = unsafe {
+        raw::a5_open(
+            frame.as_mut_ptr(),
+            frame.len(),
+            face.as_mut_ptr(),
+            face.len(),
+            sphere.as_mut_ptr(),
+            sphere.len(),
+        )
+    };
+    given(status, ())
+}
+
+// Forward, inverse and unplace: a set, two numbers and an origin, and two numbers as the answer.
+type OnFace = unsafe extern "C" fn(
+    *const f64,
+    usize,
+    *mut f64,
+    usize,
+    *mut f64,
+    usize,
+    f64,
+    f64,
+    u8,
+    *mut [f64; 2],
+) -> u8;
+
+fn on_face(
+    call: OnFace,
+    (frame, face, sphere): (&[f64], &mut [f64], &mut [f64]),
+    numbers: [f64; 2],
+    origin: u8,
+) -> Result<[f64; 2], Refusal> {
+    let mut to = [0.0; 2];
+    let status = unsafe {
+        call(
+            frame.as_ptr(),
+            frame.len(),
+            face.as_mut_ptr(),
+            face.len(),
+            sphere.as_mut_ptr(),
+            sphere.len(),
+            numbers[0],
+            numbers[1],
+            origin,
+            &mut to,
+        )
+    };
+    given(status, to)
+}
+
+/// The point of a position on the face of an origin.
+pub fn forward(
+    frame: &[f64],
+    face: &mut [f64],
+    sphere: &mut [f64],
+    position: Spherical,
+    origin: u8,
+) -> Result<Face, Refusal> {
+    let numbers = [position.theta, position.phi];
+    let to = on_face(raw::a5_forward, (frame, face, sphere), numbers, origin);
+    to.map(|[x, y]| Face { x, y })
+}
+
+/// The position of a point on the face of an origin.
+pub fn inverse(
+    frame: &[f64],
+    face: &mut [f64],
+    sphere: &mut [f64],
+    place: Place,
+) -> Result<Spherical, Refusal> {
+    let numbers = [place.face.x, place.face.y];
+    let to = on_face(
+        raw::a5_inverse,
+        (frame, face, sphere),
+        numbers,
+        place.origin,
+    );
+    to.map(|[theta, phi]| Spherical { theta, phi })
+}
+
+/// The nearest origin of a longitude and latitude, and the point on its face.
+pub fn place(
+    frame: &[f64],
+    face: &mut [f64],
+    sphere: &mut [f64],
+    position: LonLat,
+) -> Result<Place, Refusal> {
+    let (mut origin, mut to) = (0, [0.0; 2]);
+    let status = unsafe {
+        raw::a5_place(
+            frame.as_ptr(),
+            frame.len(),
+            face.as_mut_ptr(),
+            face.len(),
+            sphere.as_mut_ptr(),
+            sphere.len(),
+            position.longitude,
+            position.latitude,
+            &mut origin,
+            &mut to,
+        )
+    };
+    let face = Face { x: to[0], y: to[1] };
+    given(status, Place { origin, face })
+}
+
+/// The longitude and latitude of a point on the face of an origin.
+pub fn unplace(
+    frame: &[f64],
+    face: &mut [f64],
+    sphere: &mut [f64],
+    place: Place,
+) -> Result<LonLat, Refusal> {
+    let numbers = [place.face.x, place.face.y];
+    let to = on_face(
+        raw::a5_unplace,
+        (frame, face, sphere),
+        numbers,
+        place.origin,
+    );
+    to.map(|[longitude, latitude]| LonLat {
+        longitude,
+        latitude,
+    })
+}
+
+/// The coordinates of a filled slot, six or nine; `None` where the slot is empty.
+pub fn show<'a>(
+    face: &'a [f64],
+    sphere: &'a [f64],
+    store: Store,
+    slot: usize,
+) -> Result<Option<&'a [f64]>, Refusal> {
+    let mut part = [0; 2];
+    let status = unsafe {
+        raw::a5_show(
+            face.as_ptr(),
+            face.len(),
+            sphere.as_ptr(),
+            sphere.len(),
+            kind(store),
+            slot,
+            &mut part,
+        )
+    };
+    given(status, part).map(|[offset, length]| {
+        let named = match store {
+            Store::Face => face,
+            Store::Sphere => sphere,
+        };
+        (length > 0).then(|| &named[offset..offset + length])
+    })
+}
+
+/// Show's companion: whether the slot is filled.
+pub fn slot_state(
+    face: &[f64],
+    sphere: &[f64],
+    store: Store,
+    slot: usize,
+) -> Result<bool, Refusal> {
+    let mut filled = 0;
+    let status = unsafe {
+        raw::a5_slot_state(
+            face.as_ptr(),
+            face.len(),
+            sphere.as_ptr(),
+            sphere.len(),
+            kind(store),
+            slot,
+            &mut filled,
+        )
+    };
+    given(status, filled == 1)
+}
+
+/// The number of the origin nearest to a position.
+pub fn nearest(position: Spherical) -> Result<u8, Refusal> {
+    let mut id = 0;
+    let status = unsafe { raw::a5_nearest(position.theta, position.phi, &mut id) };
+    given(status, id)
+}
+
+/// From longitude and latitude to the authalic sphere.
+pub fn from_lon_lat(position: LonLat) -> Result<Spherical, Refusal> {
+    let mut to = [0.0; 2];
+    let status = unsafe { raw::a5_from_lon_lat(position.longitude, position.latitude, &mut to) };
+    let [theta, phi] = to;
+    given(status, Spherical { theta, phi })
+}
+
+/// From the authalic sphere to longitude and latitude.
+pub fn to_lon_lat(position: Spherical) -> Result<LonLat, Refusal> {
+    let mut to = [0.0; 2];
+    let status = unsafe { raw::a5_to_lon_lat(position.theta, position.phi, &mut to) };
+    let [longitude, latitude] = to;
+    given(
+        status,
+        LonLat {
+            longitude,
+            latitude,
+        },
+    )
+}

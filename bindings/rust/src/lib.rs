@@ -1,0 +1,24 @@
+//! Twelve faces for regional maps: a safe interface to the proved library.
+//!
+//! A [`Set`] owns its buffers and is open from the start; its methods are the calls on it. [`calls`] has the same calls
+//! on slices that the caller keeps elsewhere. Every call is total: it answers, or it is refused with a [`Refusal`] and
+//! changes nothing. Angles of [`LonLat`] are degrees, those of [`Spherical`] are radians.
+//!
+//! The calls expect the processor's usual floating-point state: rounding to nearest, subnormal numbers kept.
+
+pub mod calls;
+mod points;
+mod raw;
+mod refusal;
+mod set;
+
+pub use points::{Face, LonLat, Place, Spherical, Store};
+pub use refusal::Refusal;
+pub use set::Set;
+
+/// How many numbers the frame has: 62 rows of 3.
+pub const FRAME: usize = 186;
+/// How many numbers the face store has: 30 slots of 7.
+pub const FACE_STORE: usize = 210;
+/// How many numbers the sphere store has: 240 slots of 10.
+pub const SPHERE_STORE: usize = 2400;

@@ -1,0 +1,84 @@
+// The library's functions as they are linked; bindings/a5.h says what each does. A slice is a pointer and how many
+// numbers there are.
+
+#[link(name = "exports", kind = "static")]
+#[link(name = "m")]
+extern "C" {
+    pub fn a5_open(
+        frame: *mut f64,
+        frame_length: usize,
+        face: *mut f64,
+        face_length: usize,
+        sphere: *mut f64,
+        sphere_length: usize,
+    ) -> u8;
+    pub fn a5_forward(
+        frame: *const f64,
+        frame_length: usize,
+        face: *mut f64,
+        face_length: usize,
+        sphere: *mut f64,
+        sphere_length: usize,
+        theta: f64,
+        phi: f64,
+        origin: u8,
+        to: *mut [f64; 2],
+    ) -> u8;
+    pub fn a5_inverse(
+        frame: *const f64,
+        frame_length: usize,
+        face: *mut f64,
+        face_length: usize,
+        sphere: *mut f64,
+        sphere_length: usize,
+        x: f64,
+        y: f64,
+        origin: u8,
+        to: *mut [f64; 2],
+    ) -> u8;
+    pub fn a5_place(
+        frame: *const f64,
+        frame_length: usize,
+        face: *mut f64,
+        face_length: usize,
+        sphere: *mut f64,
+        sphere_length: usize,
+        longitude: f64,
+        latitude: f64,
+        id: *mut u8,
+        to: *mut [f64; 2],
+    ) -> u8;
+    pub fn a5_unplace(
+        frame: *const f64,
+        frame_length: usize,
+        face: *mut f64,
+        face_length: usize,
+        sphere: *mut f64,
+        sphere_length: usize,
+        x: f64,
+        y: f64,
+        origin: u8,
+        to: *mut [f64; 2],
+    ) -> u8;
+    pub fn a5_show(
+        face: *const f64,
+        face_length: usize,
+        sphere: *const f64,
+        sphere_length: usize,
+        kind: u8,
+        slot: usize,
+        part: *mut [usize; 2],
+    ) -> u8;
+    pub fn a5_slot_state(
+        face: *const f64,
+        face_length: usize,
+        sphere: *const f64,
+        sphere_length: usize,
+        kind: u8,
+        slot: usize,
+        filled: *mut u8,
+    ) -> u8;
+    pub fn a5_nearest(theta: f64, phi: f64, id: *mut u8) -> u8;
+    pub fn a5_from_lon_lat(longitude: f64, latitude: f64, to: *mut [f64; 2]) -> u8;
+    pub fn a5_to_lon_lat(theta: f64, phi: f64, to: *mut [f64; 2]) -> u8;
+}

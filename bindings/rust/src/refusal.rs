@@ -1,0 +1,70 @@
+// Refusals, by document 01's table.
+
+/// Why a call was refused. The discriminant is the number in document 01's table.
+#[derive(Clone, Copy, Debug, PartialEq, Eq)]
+#[repr(u8)]
+pub enum Refusal {
+    /// The frame isn't 186 long.
+    FrameLength = 1,
+    /// The face store isn't 210 long.
+    FaceStoreLength = 2,
+    /// The sphere store isn't 2,400 long.
+    SphereStoreLength = 3,
+    /// The origin's number is above 11.
+    UnknownOrigin = 4,
+    /// A number passed is infinite or NaN.
+    NotFinite = 5,
+    /// A number passed is outside its range.
+    OutOfRange = 6,
+    /// Open's frame hasn't 62 rows: no way to it is known.
+    FrameRows = 7,
+    /// A triangle that must be built has no vertex in the frame: the set was not opened.
+    NoVertex = 8,
+    /// The answer would have a number that isn't finite.
+    AnswerNotFinite = 9,
+    /// There is no such slot: 30 or more (face), 240 or more (sphere).
+    UnknownSlot = 10,
+    /// The strike program's: the input's header is missing, wrong or short.
+    Header = 11,
+    /// The strike program's: a record's kind isn't 1 or 2, or kind 1 with a non-zero origin byte.
+    RecordKind = 12,
+    /// The strike program's: the input ends inside a record.
+    CutOff = 13,
+}
+
+impl Refusal {
+    /// Every refusal, in the table's order.
+    pub const ALL: [Refusal; 13] = [
+        Refusal::FrameLength,
+        Refusal::FaceStoreLength,
+        Refusal::SphereStoreLength,
+        Refusal::UnknownOrigin,
+        Refusal::NotFinite,
+        Refusal::OutOfRange,
+        Refusal::FrameRows,
+        Refusal::NoVertex,
+        Refusal::AnswerNotFinite,
+        Refusal::UnknownSlot,
+        Refusal::Header,
+        Refusal::RecordKind,
+        Refusal::CutOff,
+    ];
+
+    /// The number in document 01's table.
+    pub fn number(self) -> u8 {
+        self as u8
+    }
+
+    /// The refusal of a number.
+    pub fn from_number(number: u8) -> Option<Refusal> {
+        Refusal::ALL.into_iter().find(|r| r.number() == number)
+    }
+}
+
+impl std::fmt::Display for Refusal {
+    fn fmt(&self, f: &mut std::fmt::Formatter<'_>) -> std::fmt::Result {
+        write!(f, "refused with {}, {self:?}", self.number())
+    }
+}
+
+impl std::error::Error for Refusal {}
