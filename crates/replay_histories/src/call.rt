@@ -35,7 +35,7 @@ pub enum Call {
 }
 
 // Answered with up to three whole numbers.
-fn whole(count: u8, first: u64, second: u64, third: u64) -> Outcome {
+pub(crate) fn whole(count: u8, first: u64, second: u64, third: u64) -> Outcome {
     Outcome {
         status: 0,
         count: count,

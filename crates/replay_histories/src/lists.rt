@@ -14,14 +14,14 @@ fn turn(
     frame: &mut [f64; 186],
     face: &mut [f64; 210],
     sphere: &mut [f64; 2400],
-    due_frame: &mut [f64; 186],
+    due_frame: &[f64; 186],
     due_face: &mut [f64; 210],
     due_sphere: &mut [f64; 2400],
     compared: &mut [u64; 32],
     differ: &mut [u64; 32],
 ) {
     let given = perform(frame, face, sphere, call);
-    let due = expected(due_frame, due_face, due_sphere, call);
+    let due = expected(call, due_face, due_sphere);
     count_outcome(call, given, due, compared, differ);
     let as_due = same(frame, due_frame) && same(face, due_face) && same(sphere, due_sphere);
     count(3, as_due, compared, differ);
@@ -35,7 +35,7 @@ fn list(
     frame: &mut [f64; 186],
     face: &mut [f64; 210],
     sphere: &mut [f64; 2400],
-    due_frame: &mut [f64; 186],
+    due_frame: &[f64; 186],
     due_face: &mut [f64; 210],
     due_sphere: &mut [f64; 2400],
     compared: &mut [u64; 32],
@@ -79,7 +79,7 @@ pub(crate) fn run(
         frame,
         face,
         sphere,
-        &mut f,
+        &f,
         &mut g,
         &mut h,
         compared,
@@ -92,7 +92,7 @@ pub(crate) fn run(
         frame,
         face,
         sphere,
-        &mut f,
+        &f,
         &mut g,
         &mut h,
         compared,

@@ -1,7 +1,8 @@
 // Runs long lists of calls on one set, drawn from a fixed seed, refused ones among them. Each forward, inverse, place
-// and unplace is made on a newly opened set too, and must come to the same there, bit for bit. A second set gathers what
-// those calls have written: after each call the first one must equal it in every number. Last, the oracle's list
-// (oracle/README.md) is read from standard input, and each of its vertices compared with what show hands back.
+// and unplace is made on a newly opened set too, and must come to the same there, bit for bit. Two stores gather what
+// those calls have written there since the last open: after each call the set's stores must equal them in every number,
+// and its frame the first open's. Last, the oracle's list (oracle/README.md) is read from standard input, and each of
+// its vertices compared with what show hands back.
 mod call;
 mod counts;
 mod draw;

@@ -37,3 +37,11 @@ pub(crate) fn gather(store: &mut [f64], from: &[f64]) {
         i += 1;
     }
 }
+
+pub(crate) fn clear(store: &mut [f64]) {
+    let mut i: usize = 0;
+    while i < store.len() {
+        store[i] = 0.0;
+        i += 1;
+    }
+}

@@ -4,7 +4,7 @@ use crate::common::arguments::SMALLEST;
 use crate::common::fields::whole;
 use crate::common::generator::Generator;
 use crate::common::places::rows;
-use crate::common::values::moved;
+use crate::common::values::{moved, near};
 use crate::inputs::{forward, inverse, lon_lat_of, place, point_in, position_of, unplace, Asked};
 use crate::script::{Script, RIGHT};
 use crate::set::Set;
@@ -255,12 +255,46 @@ fn frames(script: &mut Script, g: &mut Generator, defined: &Set) {
                 script.put_row(row, rows[row].map(|x| x + size));
                 everything(script, &target, defined);
             }
-            for near in [1, 60] {
+            for other in [1, 60] {
                 script.open(RIGHT);
-                script.put_row(near, rows[row].map(|x| x - 2e-6));
+                script.put_row(other, rows[row].map(|x| x - 2e-6));
                 everything(script, &target, defined);
             }
         }
+    }
+}
+
+// A corner exactly at the limit of u, v and w, 1 - 1e-14, and beside it: on these triangles each is the point's x.
+fn at_threshold(script: &mut Script) {
+    let triangles = [
+        [1.0, 0.0, 0.0, 1.0, 0.0, 0.0],
+        [0.0, 1.0, 1.0, 0.0, 0.0, 0.0],
+        [0.0, 1.0, 0.0, 0.0, 1.0, 0.0],
+    ];
+    for (id, triangle) in triangles.into_iter().enumerate() {
+        for x in near(1.0 - 1e-14) {
+            script.open(RIGHT);
+            script.put_face(10, 1.0, &triangle);
+            let (call, x) = inverse([x, 0.0], id);
+            script.call(call, &x).expect("an answer");
+        }
+    }
+}
+
+// "The first row strictly below 1e-5": origin 0's centre, (0, 0, 1), is so far from its row that the squares come to exactly
+// 1e-10, and nearer and farther by a unit.
+fn at_tolerance(script: &mut Script) {
+    let short = moved(1e-5, -1);
+    let exact = (1e-10 - short * short).sqrt();
+    assert_eq!(short * short + exact * exact, 1e-10);
+    let mut rows = near(1e-5).map(|x| [x, 0.0, 1.0]).to_vec();
+    rows.push([short, exact, 1.0]);
+    for (k, row) in rows.into_iter().enumerate() {
+        script.open(RIGHT);
+        script.put_row(0, row);
+        let (call, x) = inverse([0.25, 0.125], 0);
+        let outcome = script.call(call, &x);
+        assert_eq!(outcome.err(), if k < 2 { None } else { Some(8) });
     }
 }
 
@@ -285,5 +319,7 @@ pub fn all(script: &mut Script, g: &mut Generator) {
     no_frame(script, g, &defined);
     all_empty(script, g);
     frames(script, g, &defined);
+    at_threshold(script);
+    at_tolerance(script);
     not_finite(script, g, &defined);
 }

@@ -4,11 +4,11 @@ use Rattle.replay_histories.proofs.lists.list.Statement.{statement}
 use Rattle.replay_histories.proofs.lists.list.Tie as tie
 
 abbrev Inv-loop : tie.InvT-loop
-Inv-loop seed₀ calls opens frame₀ face₀ sphere₀ due-frame₀ due-face₀ due-sphere₀ compared₀ differ₀ left₀ seed frame face sphere due-frame due-face due-sphere compared differ left =
+Inv-loop seed₀ calls opens frame₀ face₀ sphere₀ due-frame due-face₀ due-sphere₀ compared₀ differ₀ left₀ seed frame face sphere due-face due-sphere compared differ left =
     Unit {0}
 
 abbrev μ-loop : tie.MeasureT-loop
-μ-loop seed₀ calls opens frame₀ face₀ sphere₀ due-frame₀ due-face₀ due-sphere₀ compared₀ differ₀ left₀ seed frame face sphere due-frame due-face due-sphere compared differ left =
+μ-loop seed₀ calls opens frame₀ face₀ sphere₀ due-frame due-face₀ due-sphere₀ compared₀ differ₀ left₀ seed frame face sphere due-face due-sphere compared differ left =
     left
 
 pub list-spec : {M : Type 1} → statement M
