@@ -57,3 +57,11 @@ pub fn of_triangle(t: FaceTriangle) -> Vec<f64> {
 pub fn of_spherical_triangle(t: SphericalTriangle) -> Vec<f64> {
     [t.a, t.b, t.c].map(<[f64; 3]>::from).concat()
 }
+
+pub fn of_face(f: Face) -> [f64; 2] {
+    [f.x(), f.y()]
+}
+
+pub fn of_lon_lat(l: LonLat) -> [f64; 2] {
+    [l.longitude(), l.latitude()]
+}

@@ -1,24 +1,15 @@
 // Writes the vertices of the triangles that the given Rust, with document 01's elementary steps in it, has for each of the
 // thirty face slots and the 240 sphere slots, to standard output; or with the word `test` tries what document 01 says of them.
 
-#[allow(dead_code)]
-#[path = "../../common/list.rs"]
-mod list;
+#[path = "../../common/mod.rs"]
+mod common;
 
 use a5::coordinate_systems::{Cartesian, Face};
 use a5::core::coordinate_transforms::to_cartesian;
 use a5::core::origin::get_origins;
 use a5::projections::dodecahedron::DodecahedronProjection;
-use list::List;
-
-// The float with the bits of a whole number, as the list has it, and back.
-fn whole(n: usize) -> f64 {
-    f64::from_bits(n as u64)
-}
-
-fn of_whole(x: f64) -> usize {
-    x.to_bits() as usize
-}
+use common::fields::{of_whole, whole};
+use common::list::List;
 
 fn slots(count: usize) -> Vec<[f64; 2]> {
     (0..3 * count)
@@ -60,13 +51,13 @@ fn test() {
     }
 }
 
-fn main() {
-    if std::env::args().nth(1).as_deref() == Some("test") {
-        test();
-        return;
-    }
+fn answers() -> List {
     let mut list = List::new();
     list.step(1, face_vertex, &slots(30));
     list.step(2, sphere_vertex, &slots(240));
-    list.write();
+    list
+}
+
+fn main() {
+    common::run(test, answers);
 }

@@ -1,0 +1,27 @@
+-- `replay_strike::step` is safe, and takes and writes no more than there is. Assumes nothing.
+use native.Mathlib.Omega.{arith}
+use borrow.Author.Needs.{needs}
+use lib.ListN.{length-take, length-drop}
+use Rattle.replay_strike.proofs.step.Statement.{statement}
+use Rattle.replay_strike.proofs.step.Tie as tie
+
+add-t21 : tie.Need-add-t21
+add-t21 c = omega (arith, simp (length-take, length-drop) at (c .before .before .before .before .before .before .before .before .feed .ensures .1 .1 .1 .1 .1 .1 .1), c .before .before .before .before .before .before .before .before .before .before .before .before .before .before .before .before .before .before .good)
+
+pub step-spec : {M : Type 1} → statement M
+step-spec =
+    tie.close
+    (tie.spec
+    (λ c. search needs)
+    (λ c. search needs)
+    (λ c. search needs)
+    (λ c. search needs)
+    (λ c. search needs)
+    (λ c. search needs)
+    (λ c κs. search needs)
+    (λ c. search needs)
+    add-t21
+    (λ c. search needs)
+    (λ c. search needs)
+    (λ c. search needs)
+    (λ c. search needs))
