@@ -2,15 +2,15 @@
 use coordinates::conversions::LonLatAnswer;
 use coordinates::conversions::SphericalAnswer;
 use dodecahedron::calls;
-use set::open::OpenAnswer;
-use set::open::open;
-use set::checks::FaceAnswer;
 use dodecahedron::used::PlaceAnswer;
 use replay::outcome::Outcome;
 use replay::outcome::refused;
 use replay::outcome::two;
 use replay::pattern::bits;
 use replay::record::word;
+use set::checks::FaceAnswer;
+use set::open::OpenAnswer;
+use set::open::open;
 
 // The origin's id after the two numbers. No id is above 255, so what does not fit is as one that there is not.
 fn origin(words: &[u8; 96]) -> u8 {

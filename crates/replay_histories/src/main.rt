@@ -11,11 +11,11 @@ mod lists;
 mod stores;
 mod vertices;
 
-use set::open::open;
 use replay::record;
 use replay::record::Next;
 use replay::report;
 use replay::tally;
+use set::open::open;
 
 // Reads one record and compares its vertex. Answers whether there was one.
 fn replay_next<'a>(
