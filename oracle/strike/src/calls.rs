@@ -1,7 +1,7 @@
 // Place and unplace as calls on an opened set. The Rust refuses nothing: the refusals are document 01's, under its words.
 
-use crate::common::fields::{lon_lat, of_face, of_lon_lat};
-use crate::common::refusals::{check, finite};
+use crate::fields::{lon_lat, of_face, of_lon_lat};
+use crate::refusals::{check, finite};
 use a5::coordinate_systems::Face;
 use a5::core::coordinate_transforms::{from_lon_lat, to_lon_lat};
 use a5::core::origin::find_nearest_origin;

@@ -1,6 +1,6 @@
 // The inputs of the sessions.
 
-use crate::common::generator::Generator;
+use crate::generator::Generator;
 
 pub const HEADER: &[u8] = b"EAD\0\x01";
 

@@ -3,9 +3,18 @@
 // reads a session and answers it (`run`); or tries what document 01 says of the program (`test`).
 
 mod calls;
-#[path = "../../common/mod.rs"]
-mod common;
+// Not all of `common`, of which a part needs the stepped form: this program is built on the plain one too.
+#[allow(dead_code)]
+#[path = "../../common/fields.rs"]
+mod fields;
+#[allow(dead_code)]
+#[path = "../../common/generator.rs"]
+mod generator;
 mod inputs;
+#[allow(dead_code)]
+#[path = "../../common/refusals.rs"]
+mod refusals;
+#[allow(dead_code)]
 mod selftest;
 mod session;
 
