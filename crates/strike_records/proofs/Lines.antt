@@ -19,7 +19,7 @@ use Rattle.coordinates.specs.declared.lonlat.LonLat.{LonLat}
 use Rattle.dodecahedron.specs.declared.used.Place.{Place}
 use Rattle.strike_records.specs.Line.{LINE, placeLine, lonLatLine, refusalLine}
 use Rattle.strike_records.specs.Record.{Request, place, unplace, requestIn, headed}
-use Rattle.strike_records.specs.Session.{Set, setOf, MAX-RECORDS, lineOf, lineFor, recordLine, recordSet}
+use Rattle.strike_records.specs.Session.{Set, setOf, MAX-RECORDS, lineOf, lineFor, setFor, Answered, recordLine, recordSet}
 use Rattle.strike_records.specs.Pieces.{recordAt, answerable, Fed, still, setAfter, linesOf, recordsFed, fed, fitting, endLine}
 use Rattle.strike_records.specs.declared.session.Stage.{Stage}
 use Rattle.strike_records.specs.declared.session.Stage.the-variants.{Header, Records, Stopped}
@@ -64,10 +64,15 @@ module _ (A : Arith) (table : List Float) (s : Set) (bytes : List ℕ) where
   lines-fit zero = omega arith
   lines-fit (suc k) = omega (arith, length-append (lines k) (recordLine A table (after k) (recordAt bytes k)), lines-fit k, record-fits A table (after k) (recordAt bytes k))
 
+  frame-for : (t : Set) (r : Given Request) → setFor A table t r .frame ≡ t .frame
+  frame-for t (refused n) = refl
+  frame-for t (answered (place p)) = refl
+  frame-for t (answered (unplace f o)) = refl
+
   frame-kept : (k : ℕ) → after k .frame ≡ s .frame
   unfolding setAfter recordSet
   frame-kept zero = refl
-  frame-kept (suc k) = frame-kept k
+  frame-kept (suc k) = frame-for (after k) (requestIn A (recordAt bytes k)) ∙ frame-kept k
 
   -- the set, by its three parts
   pub set-is : (k : ℕ) (face sphere : List Float) → face ≡ after k .face → sphere ≡ after k .sphere → setOf (s .frame) face sphere ≡ after k
@@ -81,15 +86,18 @@ module _ (A : Arith) (table : List Float) (s : Set) (bytes : List ℕ) where
   one-more k t r p q = rw (add-one k, p, q) (refl, refl)
 
   -- what stands in a buffer then
-  pub written-more : (out₀ out o : List ℕ) (k written w : ℕ) (t : Set) (r : List ℕ) → t ≡ after k → r ≡ recordAt bytes k → length (lines k) ≤ length out₀ → written ≡ length (lines k)
-      → out ≡ put out₀ 0 (lines k) → w ≡ written + length (recordLine A table t r) → o ≡ put out written (recordLine A table t r)
-      → (w ≡ length (lines (k + 1))) × (o ≡ put out₀ 0 (lines (k + 1)))
-  written-more out₀ out o k written w t r p q fits start before e f =
-      let more = one-more k t r p q .0 in
-      let line = recordLine A table t r in (
-        e ∙ ap (λ (n : ℕ). n + length line) start ∙ sym (length-append (lines k) line) ∙ ap length more,
-        f ∙ ap (λ (l : List ℕ). put l written line) before ∙ put-put out₀ 0 written (lines k) line (omega arith) (omega arith) ∙ ap (put out₀ 0) more,
-      )
+  pub answered-more : (k : ℕ) {t : Set} {r out₀ out o : List ℕ} {written w : ℕ} {face sphere face₁ sphere₁ : List Float} → t ≡ after k → r ≡ recordAt bytes k
+      → Answered (lines k) (after k) 0 out₀ written out face sphere → Answered (recordLine A table t r) (recordSet A table t r) written out w o face₁ sphere₁ → length (lines k) ≤ length out₀
+      → Answered (lines (k + 1)) (after (k + 1)) 0 out₀ w o face₁ sphere₁
+  answered-more k {t} {r} {out₀} {written = written} p q sofar next fits =
+      let more = one-more k t r p q in
+      let line = recordLine A table t r in
+      record {
+        end-is = omega (arith, next .end-is, sofar .end-is, length-append (lines k) line, ap length (more .0));
+        out-is = next .out-is ∙ ap (λ (l : List ℕ). put l written line) (sofar .out-is) ∙ put-put out₀ 0 written (lines k) line (omega arith) (sofar .end-is) ∙ ap (put out₀ 0) (more .0);
+        face-is = next .face-is ∙ ap (λ (u : Set). u .face) (more .1);
+        sphere-is = next .sphere-is ∙ ap (λ (u : Set). u .sphere) (more .1);
+      }
 
 -- record k as the part that is lent
 pub part-is : (bytes : List ℕ) (k : ℕ) → take (k * 10 + 10 - k * 10) (drop (k * 10) bytes) ≡ recordAt bytes k

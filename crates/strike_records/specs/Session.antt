@@ -1,5 +1,6 @@
 -- Document 01, "The strike program": from all bytes of the input all bytes of the output. Definitions only.
-use Prim.Native.Nat.{ℕ, zero, suc}
+use Prim.Native.Nat.{ℕ, zero, suc, _+_}
+use mathlib.Core.Path.{_≡_}
 use mathlib.Core.Bool.{true, false}
 use mathlib.Core.List.{List, [], _∷_, _++_}
 use lib.Dec.{ltb}
@@ -8,10 +9,13 @@ use lib.Ieee.{Float}
 use Rattle.answer.specs.Given.{Given, answered, refused}
 use Rattle.arithmetic.specs.Arith.{Arith}
 use Rattle.set.specs.Sizes.{FACE-STORE, SPHERE-STORE}
+use Rattle.dodecahedron.specs.Slots.{put}
 use Rattle.set.specs.Open.{openGiven, frameAfter, clearedAfter}
 use Rattle.dodecahedron.specs.Calls.{answerOf, usedOf, faceAfter, sphereAfter, placeGiven, unplaceGiven}
 use Rattle.strike_records.specs.Line.{placeLine, lonLatLine, refusalLine}
 use Rattle.strike_records.specs.Record.{Request, place, unplace, headed, requestIn}
+
+-- ---- the set and the lines
 
 -- the three buffers
 pub record Set : Type 0 where
@@ -36,6 +40,13 @@ abbrev pub cutOff : List ℕ → List ℕ
 cutOff [] = []
 cutOff (b ∷ bs) = refusalLine 13
 
+-- what is written into a buffer from a place on, and what the two stores hold then: a line, and a set after it
+pub record Answered (line : List ℕ) (after : Set) (at : ℕ) (before : List ℕ) (end : ℕ) (out : List ℕ) (face sphere : List Float) : Type 0 where
+  pub end-is : end ≡ at + length line
+  pub out-is : out ≡ put before at line
+  pub face-is : face ≡ after .face
+  pub sphere-is : sphere ≡ after .sphere
+
 module _ (A : Arith) (table : List Float) where
   -- the line of a record on a set, by what it asks for
   abbrev pub lineFor : Set → Given Request → List ℕ
@@ -43,23 +54,22 @@ module _ (A : Arith) (table : List Float) where
   lineFor s (answered (place p)) = lineOf placeLine (answerOf (placeGiven A table (s .frame) (s .face) (s .sphere) p))
   lineFor s (answered (unplace f o)) = lineOf lonLatLine (answerOf (unplaceGiven A table (s .frame) (s .face) (s .sphere) f o))
 
-  -- the stores after it
-  abbrev pub faceFor : Set → Given Request → List Float
-  faceFor s (refused n) = s .face
-  faceFor s (answered (place p)) = faceAfter A (s .face) (usedOf (placeGiven A table (s .frame) (s .face) (s .sphere) p))
-  faceFor s (answered (unplace f o)) = faceAfter A (s .face) (usedOf (unplaceGiven A table (s .frame) (s .face) (s .sphere) f o))
-
-  abbrev pub sphereFor : Set → Given Request → List Float
-  sphereFor s (refused n) = s .sphere
-  sphereFor s (answered (place p)) = sphereAfter (s .sphere) (usedOf (placeGiven A table (s .frame) (s .face) (s .sphere) p))
-  sphereFor s (answered (unplace f o)) = sphereAfter (s .sphere) (usedOf (unplaceGiven A table (s .frame) (s .face) (s .sphere) f o))
+  -- the set after it
+  abbrev pub setFor : Set → Given Request → Set
+  setFor s (refused n) = s
+  setFor s (answered (place p)) =
+      let used = usedOf (placeGiven A table (s .frame) (s .face) (s .sphere) p) in
+      setOf (s .frame) (faceAfter A (s .face) used) (sphereAfter (s .sphere) used)
+  setFor s (answered (unplace f o)) =
+      let used = usedOf (unplaceGiven A table (s .frame) (s .face) (s .sphere) f o) in
+      setOf (s .frame) (faceAfter A (s .face) used) (sphereAfter (s .sphere) used)
 
   -- a record of ten bytes: its line, and the set after it
   unfoldable pub recordLine : Set → List ℕ → List ℕ
   recordLine s r = lineFor s (requestIn A r)
 
   unfoldable pub recordSet : Set → List ℕ → Set
-  recordSet s r = setOf (s .frame) (faceFor s (requestIn A r)) (sphereFor s (requestIn A r))
+  recordSet s r = setFor s (requestIn A r)
 
   -- "10-byte records", of which n more are taken: a line each, and what the input's end gives. "A cut-off record gives only 13, also where its kind is wrong."
   unfoldable pub records : ℕ → Set → List ℕ → List ℕ

@@ -19,16 +19,16 @@ ghost use Rattle.origin.specs.Origins.{ORIGINS};
 ghost use Rattle.dodecahedron.specs.Slots.{put};
 ghost use Rattle.set.specs.Open.{openGiven};
 ghost use Rattle.strike_records.specs.Line.{LINE, refusalLine};
-ghost use Rattle.strike_records.specs.Session.{setOf, opened, lineFor, faceFor, sphereFor, recordLine, recordSet};
-ghost use Rattle.strike_records.specs.Pieces.{answerable, setAfter, linesOf, recordsFed, fed, endLine, fitting, beginStage, beginLine, over, leftOver};
+ghost use Rattle.strike_records.specs.Session.{setOf, opened, lineFor, setFor, recordLine, recordSet, Answered};
+ghost use Rattle.strike_records.specs.Pieces.{answerable, setAfter, linesOf, recordsFed, fed, Feeds, endLine, fitting, beginStage, beginLine, over, leftOver};
 ghost use Rattle.strike_records.specs.Record.{place, unplace};
 ghost use Rattle.answer.specs.Given.{answered};
 ghost use Rattle.strike_records.specs.declared.session.Stage.the-variants.{Header};
 
-// The records that are still taken, after the header; a stopped session takes nothing more.
 // Room for any line.
 pub const LINE: usize = 40;
 
+// The records that are still taken, after the header; a stopped session takes nothing more.
 pub enum Stage {
     Header,
     Records(u32),
@@ -56,10 +56,7 @@ fn answer_place(
     at: usize,
 ) -> usize
     requires { ⌜ at + LINE ≤ length (now out) ⌝ }
-    ensures { λ r. ⌜ r ≡ at + length (lineFor ieee ORIGINS (setOf (now (frame .entry)) (now (face .entry)) (now (sphere .entry))) (answered (place lonlat))) ⌝ }
-    ensures { λ _. ⌜ now (out .exit) ≡ put (now (out .entry)) at (lineFor ieee ORIGINS (setOf (now (frame .entry)) (now (face .entry)) (now (sphere .entry))) (answered (place lonlat))) ⌝ }
-    ensures { λ _. ⌜ now (face .exit) ≡ faceFor ieee ORIGINS (setOf (now (frame .entry)) (now (face .entry)) (now (sphere .entry))) (answered (place lonlat)) ⌝ }
-    ensures { λ _. ⌜ now (sphere .exit) ≡ sphereFor ieee ORIGINS (setOf (now (frame .entry)) (now (face .entry)) (now (sphere .entry))) (answered (place lonlat)) ⌝ }
+    ensures { λ r. ⌜ Answered (lineFor ieee ORIGINS (setOf (now (frame .entry)) (now (face .entry)) (now (sphere .entry))) (answered (place lonlat))) (setFor ieee ORIGINS (setOf (now (frame .entry)) (now (face .entry)) (now (sphere .entry))) (answered (place lonlat))) at (now (out .entry)) r (now (out .exit)) (now (face .exit)) (now (sphere .exit)) ⌝ }
 {
     match dodecahedron::calls::place(frame, face, sphere, lonlat) {
         PlaceAnswer::Answered(p) => write_place(out, at, p),
@@ -77,10 +74,7 @@ fn answer_unplace(
     at: usize,
 ) -> usize
     requires { ⌜ at + LINE ≤ length (now out) ⌝ }
-    ensures { λ r. ⌜ r ≡ at + length (lineFor ieee ORIGINS (setOf (now (frame .entry)) (now (face .entry)) (now (sphere .entry))) (answered (unplace point origin))) ⌝ }
-    ensures { λ _. ⌜ now (out .exit) ≡ put (now (out .entry)) at (lineFor ieee ORIGINS (setOf (now (frame .entry)) (now (face .entry)) (now (sphere .entry))) (answered (unplace point origin))) ⌝ }
-    ensures { λ _. ⌜ now (face .exit) ≡ faceFor ieee ORIGINS (setOf (now (frame .entry)) (now (face .entry)) (now (sphere .entry))) (answered (unplace point origin)) ⌝ }
-    ensures { λ _. ⌜ now (sphere .exit) ≡ sphereFor ieee ORIGINS (setOf (now (frame .entry)) (now (face .entry)) (now (sphere .entry))) (answered (unplace point origin)) ⌝ }
+    ensures { λ r. ⌜ Answered (lineFor ieee ORIGINS (setOf (now (frame .entry)) (now (face .entry)) (now (sphere .entry))) (answered (unplace point origin))) (setFor ieee ORIGINS (setOf (now (frame .entry)) (now (face .entry)) (now (sphere .entry))) (answered (unplace point origin))) at (now (out .entry)) r (now (out .exit)) (now (face .exit)) (now (sphere .exit)) ⌝ }
 {
     match dodecahedron::calls::unplace(frame, face, sphere, point, origin) {
         LonLatAnswer::Answered(l) => write_lon_lat(out, at, l),
@@ -97,10 +91,7 @@ fn answer_record(
     at: usize,
 ) -> usize
     requires { ⌜ (length (now bytes) ≡ 10) × (at + LINE ≤ length (now out)) ⌝ }
-    ensures { λ r. ⌜ r ≡ at + length (recordLine ieee ORIGINS (setOf (now (frame .entry)) (now (face .entry)) (now (sphere .entry))) (now (bytes .entry))) ⌝ }
-    ensures { λ _. ⌜ now (out .exit) ≡ put (now (out .entry)) at (recordLine ieee ORIGINS (setOf (now (frame .entry)) (now (face .entry)) (now (sphere .entry))) (now (bytes .entry))) ⌝ }
-    ensures { λ _. ⌜ now (face .exit) ≡ recordSet ieee ORIGINS (setOf (now (frame .entry)) (now (face .entry)) (now (sphere .entry))) (now (bytes .entry)) .face ⌝ }
-    ensures { λ _. ⌜ now (sphere .exit) ≡ recordSet ieee ORIGINS (setOf (now (frame .entry)) (now (face .entry)) (now (sphere .entry))) (now (bytes .entry)) .sphere ⌝ }
+    ensures { λ r. ⌜ Answered (recordLine ieee ORIGINS (setOf (now (frame .entry)) (now (face .entry)) (now (sphere .entry))) (now (bytes .entry))) (recordSet ieee ORIGINS (setOf (now (frame .entry)) (now (face .entry)) (now (sphere .entry))) (now (bytes .entry))) at (now (out .entry)) r (now (out .exit)) (now (face .exit)) (now (sphere .exit)) ⌝ }
 {
     match crate::record::decode(bytes) {
         Request::Place(p) => answer_place(frame, face, sphere, p, out, at),
@@ -119,10 +110,7 @@ fn answer_records(
     count: usize,
 ) -> usize
     requires { ⌜ (count * 10 ≤ length (now input)) × (count * LINE ≤ length (now out)) ⌝ }
-    ensures { λ r. ⌜ r ≡ length (linesOf ieee ORIGINS (setOf (now (frame .entry)) (now (face .entry)) (now (sphere .entry))) (now (input .entry)) count) ⌝ }
-    ensures { λ _. ⌜ now (out .exit) ≡ put (now (out .entry)) 0 (linesOf ieee ORIGINS (setOf (now (frame .entry)) (now (face .entry)) (now (sphere .entry))) (now (input .entry)) count) ⌝ }
-    ensures { λ _. ⌜ now (face .exit) ≡ setAfter ieee ORIGINS (setOf (now (frame .entry)) (now (face .entry)) (now (sphere .entry))) (now (input .entry)) count .face ⌝ }
-    ensures { λ _. ⌜ now (sphere .exit) ≡ setAfter ieee ORIGINS (setOf (now (frame .entry)) (now (face .entry)) (now (sphere .entry))) (now (input .entry)) count .sphere ⌝ }
+    ensures { λ r. ⌜ Answered (linesOf ieee ORIGINS (setOf (now (frame .entry)) (now (face .entry)) (now (sphere .entry))) (now (input .entry)) count) (setAfter ieee ORIGINS (setOf (now (frame .entry)) (now (face .entry)) (now (sphere .entry))) (now (input .entry)) count) 0 (now (out .entry)) r (now (out .exit)) (now (face .exit)) (now (sphere .exit)) ⌝ }
 {
     let mut i: usize = 0;
     let mut written: usize = 0;
@@ -151,12 +139,7 @@ fn feed_records(
     out: &mut [u8],
 ) -> Fed
     requires { ⌜ header ≤ 5 ⌝ }
-    ensures { λ r. ⌜ r .stage ≡ recordsFed ieee ORIGINS header left (setOf (now (frame .entry)) (now (face .entry)) (now (sphere .entry))) (now (input .entry)) (answerable left (now (input .entry)) (length (now (out .entry)))) .stage ⌝ }
-    ensures { λ r. ⌜ r .taken ≡ recordsFed ieee ORIGINS header left (setOf (now (frame .entry)) (now (face .entry)) (now (sphere .entry))) (now (input .entry)) (answerable left (now (input .entry)) (length (now (out .entry)))) .taken ⌝ }
-    ensures { λ r. ⌜ r .written ≡ length (recordsFed ieee ORIGINS header left (setOf (now (frame .entry)) (now (face .entry)) (now (sphere .entry))) (now (input .entry)) (answerable left (now (input .entry)) (length (now (out .entry)))) .lines) ⌝ }
-    ensures { λ _. ⌜ now (out .exit) ≡ put (now (out .entry)) 0 (recordsFed ieee ORIGINS header left (setOf (now (frame .entry)) (now (face .entry)) (now (sphere .entry))) (now (input .entry)) (answerable left (now (input .entry)) (length (now (out .entry)))) .lines) ⌝ }
-    ensures { λ _. ⌜ now (face .exit) ≡ recordsFed ieee ORIGINS header left (setOf (now (frame .entry)) (now (face .entry)) (now (sphere .entry))) (now (input .entry)) (answerable left (now (input .entry)) (length (now (out .entry)))) .set .face ⌝ }
-    ensures { λ _. ⌜ now (sphere .exit) ≡ recordsFed ieee ORIGINS header left (setOf (now (frame .entry)) (now (face .entry)) (now (sphere .entry))) (now (input .entry)) (answerable left (now (input .entry)) (length (now (out .entry)))) .set .sphere ⌝ }
+    ensures { λ r. ⌜ Feeds (recordsFed ieee ORIGINS header left (setOf (now (frame .entry)) (now (face .entry)) (now (sphere .entry))) (now (input .entry)) (answerable left (now (input .entry)) (length (now (out .entry))))) r (now (out .entry)) (now (out .exit)) (now (face .exit)) (now (sphere .exit)) ⌝ }
 {
     let count = least(left as usize, least(input.len() / 10, out.len() / LINE));
     let written = answer_records(frame, face, sphere, input, out, count);
@@ -175,12 +158,7 @@ fn feed_header(
     input: &[u8],
     out: &mut [u8],
 ) -> Fed
-    ensures { λ r. ⌜ r .stage ≡ fed ieee ORIGINS Header (setOf (now (frame .entry)) (now (face .entry)) (now (sphere .entry))) (now (input .entry)) (length (now (out .entry))) .stage ⌝ }
-    ensures { λ r. ⌜ r .taken ≡ fed ieee ORIGINS Header (setOf (now (frame .entry)) (now (face .entry)) (now (sphere .entry))) (now (input .entry)) (length (now (out .entry))) .taken ⌝ }
-    ensures { λ r. ⌜ r .written ≡ length (fed ieee ORIGINS Header (setOf (now (frame .entry)) (now (face .entry)) (now (sphere .entry))) (now (input .entry)) (length (now (out .entry))) .lines) ⌝ }
-    ensures { λ _. ⌜ now (out .exit) ≡ put (now (out .entry)) 0 (fed ieee ORIGINS Header (setOf (now (frame .entry)) (now (face .entry)) (now (sphere .entry))) (now (input .entry)) (length (now (out .entry))) .lines) ⌝ }
-    ensures { λ _. ⌜ now (face .exit) ≡ fed ieee ORIGINS Header (setOf (now (frame .entry)) (now (face .entry)) (now (sphere .entry))) (now (input .entry)) (length (now (out .entry))) .set .face ⌝ }
-    ensures { λ _. ⌜ now (sphere .exit) ≡ fed ieee ORIGINS Header (setOf (now (frame .entry)) (now (face .entry)) (now (sphere .entry))) (now (input .entry)) (length (now (out .entry))) .set .sphere ⌝ }
+    ensures { λ r. ⌜ Feeds (fed ieee ORIGINS Header (setOf (now (frame .entry)) (now (face .entry)) (now (sphere .entry))) (now (input .entry)) (length (now (out .entry)))) r (now (out .entry)) (now (out .exit)) (now (face .exit)) (now (sphere .exit)) ⌝ }
 {
     let nothing = Fed {
         stage: Stage::Header,
@@ -214,12 +192,7 @@ pub fn feed(
     input: &[u8],
     out: &mut [u8],
 ) -> Fed
-    ensures { λ r. ⌜ r .stage ≡ fed ieee ORIGINS stage (setOf (now (frame .entry)) (now (face .entry)) (now (sphere .entry))) (now (input .entry)) (length (now (out .entry))) .stage ⌝ }
-    ensures { λ r. ⌜ r .taken ≡ fed ieee ORIGINS stage (setOf (now (frame .entry)) (now (face .entry)) (now (sphere .entry))) (now (input .entry)) (length (now (out .entry))) .taken ⌝ }
-    ensures { λ r. ⌜ r .written ≡ length (fed ieee ORIGINS stage (setOf (now (frame .entry)) (now (face .entry)) (now (sphere .entry))) (now (input .entry)) (length (now (out .entry))) .lines) ⌝ }
-    ensures { λ _. ⌜ now (out .exit) ≡ put (now (out .entry)) 0 (fed ieee ORIGINS stage (setOf (now (frame .entry)) (now (face .entry)) (now (sphere .entry))) (now (input .entry)) (length (now (out .entry))) .lines) ⌝ }
-    ensures { λ _. ⌜ now (face .exit) ≡ fed ieee ORIGINS stage (setOf (now (frame .entry)) (now (face .entry)) (now (sphere .entry))) (now (input .entry)) (length (now (out .entry))) .set .face ⌝ }
-    ensures { λ _. ⌜ now (sphere .exit) ≡ fed ieee ORIGINS stage (setOf (now (frame .entry)) (now (face .entry)) (now (sphere .entry))) (now (input .entry)) (length (now (out .entry))) .set .sphere ⌝ }
+    ensures { λ r. ⌜ Feeds (fed ieee ORIGINS stage (setOf (now (frame .entry)) (now (face .entry)) (now (sphere .entry))) (now (input .entry)) (length (now (out .entry)))) r (now (out .entry)) (now (out .exit)) (now (face .exit)) (now (sphere .exit)) ⌝ }
     ensures { λ r. ⌜ (r .taken ≤ length (now (input .entry))) × (r .written ≤ length (now (out .entry))) ⌝ }
 {
     match stage {

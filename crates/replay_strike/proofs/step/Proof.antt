@@ -6,7 +6,7 @@ use Rattle.replay_strike.proofs.step.Statement.{statement}
 use Rattle.replay_strike.proofs.step.Tie as tie
 
 add-t21 : tie.Need-add-t21
-add-t21 c = omega (arith, simp (length-take, length-drop) at (c .before .before .before .before .before .before .before .before .feed .ensures .1 .1 .1 .1 .1 .1 .1), c .before .before .before .before .before .before .before .before .before .before .before .before .before .before .before .before .before .before .good)
+add-t21 c = omega (arith, simp (length-take, length-drop) at (c .before .before .before .before .before .before .before .before .feed .ensures .1 .1), c .before .before .before .before .before .before .before .before .before .before .before .before .before .before .before .before .before .before .good)
 
 pub step-spec : {M : Type 1} → statement M
 step-spec =

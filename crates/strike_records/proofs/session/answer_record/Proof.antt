@@ -16,7 +16,9 @@ returns-2 c = rw (sym (c .before .before .before .before .before .before .before
 
 returns-3 : tie.Need-returns-3
 unfolding recordLine recordSet
-returns-3 c = rw (sym (c .before .before .before .before .before .before .before .before .decode .ensures) ∙ ap givenRequest (c .before .before .before .before .before .before .n .given .1), ← (c .before .before .before .number .ensures)) (c .before .before .write-refusal .ensures .0, (c .before .before .write-refusal .ensures .1, (refl, refl)))
+returns-3 c =
+    let wrote = c .before .before .write-refusal .ensures in
+    rw (sym (c .before .before .before .before .before .before .before .before .decode .ensures) ∙ ap givenRequest (c .before .before .before .before .before .before .n .given .1), ← (c .before .before .before .number .ensures)) (record { end-is = wrote .0; out-is = wrote .1; face-is = refl; sphere-is = refl })
 
 pub answer-record-spec : {M : Type 1} → statement M
 answer-record-spec =

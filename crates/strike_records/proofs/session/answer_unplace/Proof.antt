@@ -7,13 +7,15 @@ use Rattle.strike_records.proofs.session.answer_unplace.Tie as tie
 
 returns : tie.Need-returns
 returns c =
-    let call = c .before .before .before .before .before .before .before .before .before .before .before .unplace in
-    rw (sym (call .ensures .0) ∙ ap givenLonLat (c .before .before .before .before .before .l .given .1)) (c .before .before .write-lon-lat .ensures .0, (c .before .before .write-lon-lat .ensures .1, (call .ensures .1 .0, call .ensures .1 .1)))
+    let call = c .before .before .before .before .before .before .before .before .before .before .before .unplace .ensures in
+    let wrote = c .before .before .write-lon-lat .ensures in
+    rw (sym (call .0) ∙ ap givenLonLat (c .before .before .before .before .before .l .given .1)) (record { end-is = wrote .0; out-is = wrote .1; face-is = call .1 .0; sphere-is = call .1 .1 })
 
 returns-2 : tie.Need-returns-2
 returns-2 c =
-    let call = c .before .before .before .before .before .before .before .before .before .before .before .before .unplace in
-    rw (sym (call .ensures .0) ∙ ap givenLonLat (c .before .before .before .before .before .before .n .given .1), ← (c .before .before .before .number .ensures)) (c .before .before .write-refusal .ensures .0, (c .before .before .write-refusal .ensures .1, (call .ensures .1 .0, call .ensures .1 .1)))
+    let call = c .before .before .before .before .before .before .before .before .before .before .before .before .unplace .ensures in
+    let wrote = c .before .before .write-refusal .ensures in
+    rw (sym (call .0) ∙ ap givenLonLat (c .before .before .before .before .before .before .n .given .1), ← (c .before .before .before .number .ensures)) (record { end-is = wrote .0; out-is = wrote .1; face-is = call .1 .0; sphere-is = call .1 .1 })
 
 pub answer-unplace-spec : {M : Type 1} → statement M
 answer-unplace-spec =

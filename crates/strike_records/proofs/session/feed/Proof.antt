@@ -17,20 +17,20 @@ returns : tie.Need-returns
 returns c =
     let a = c .before .before .before .before .before .before .before .before .before .before .before .before .before .before .before .before .before .args in
     let f = c .before .before .before .before .before .before .feed-header .ensures in
-    let most = bounded ieee ORIGINS (setOf (a .frame .now) (a .face .now) (a .sphere .now)) Header (a .input .now) (length (a .out .now)) _ _ (f .1 .0) (f .1 .1 .0) in
-    rw (c .before .before .before .before .before .before .before .before .before .before .enum-told .given .1) (f .0, (f .1 .0, (f .1 .1 .0, (f .1 .1 .1 .0, (f .1 .1 .1 .1 .0, (f .1 .1 .1 .1 .1, most))))))
+    let most = bounded ieee ORIGINS (setOf (a .frame .now) (a .face .now) (a .sphere .now)) Header (a .input .now) (length (a .out .now)) _ _ (f .taken-is) (f .written-is) in
+    rw (c .before .before .before .before .before .before .before .before .before .before .enum-told .given .1) (f, most)
 
 returns-2 : tie.Need-returns-2
 unfolding fed
 returns-2 c =
     let a = c .before .before .before .before .before .before .before .before .before .before .before .before .before .before .before .before .before .before .args in
     let f = c .before .before .before .before .before .before .feed-records .ensures in
-    let most = bounded ieee ORIGINS (setOf (a .frame .now) (a .face .now) (a .sphere .now)) (Records _) (a .input .now) (length (a .out .now)) _ _ (f .1 .0) (f .1 .1 .0) in
-    rw (c .before .before .before .before .before .before .before .before .before .before .before .stage .given .1) (f .0, (f .1 .0, (f .1 .1 .0, (f .1 .1 .1 .0, (f .1 .1 .1 .1 .0, (f .1 .1 .1 .1 .1, most))))))
+    let most = bounded ieee ORIGINS (setOf (a .frame .now) (a .face .now) (a .sphere .now)) (Records _) (a .input .now) (length (a .out .now)) _ _ (f .taken-is) (f .written-is) in
+    rw (c .before .before .before .before .before .before .before .before .before .before .before .stage .given .1) (f, most)
 
 returns-3 : tie.Need-returns-3
 unfolding fed put
-returns-3 c = rw (c .enum-told2 .given .1) (refl, (refl, (refl, (refl, (refl, (refl, (zero-le, zero-le)))))))
+returns-3 c = rw (c .enum-told2 .given .1) (record { stage-is = refl; taken-is = refl; written-is = refl; out-is = refl; face-is = refl; sphere-is = refl }, (zero-le, zero-le))
 
 pub feed-spec : {M : Type 1} → statement M
 feed-spec =

@@ -11,7 +11,7 @@ use Rattle.strike_records.proofs.session.feed_header.Tie as tie
 
 returns : tie.Need-returns
 unfolding fed put
-returns c = rw (lt-ltb _ _ (c .if1 .taken), fed) (refl, (refl, (refl, (refl, (refl, refl)))))
+returns c = rw (lt-ltb _ _ (c .if1 .taken), fed) (record { stage-is = refl; taken-is = refl; written-is = refl; out-is = refl; face-is = refl; sphere-is = refl })
 
 returns-2 : tie.Need-returns-2
 unfolding fed
@@ -19,13 +19,13 @@ returns-2 c = rw (le-ltb _ _ (c .before .before .before .before .before .before 
 
 returns-3 : tie.Need-returns-3
 unfolding fed put
-returns-3 c = rw (le-ltb _ _ (c .before .before .before .if1 .left), sym (c .before .before .is-header .ensures) ∙ c .before .if2 .left, lt-ltb _ _ (c .if3 .taken), fed) (refl, (refl, (refl, (refl, (refl, refl)))))
+returns-3 c = rw (le-ltb _ _ (c .before .before .before .if1 .left), sym (c .before .before .is-header .ensures) ∙ c .before .if2 .left, lt-ltb _ _ (c .if3 .taken), fed) (record { stage-is = refl; taken-is = refl; written-is = refl; out-is = refl; face-is = refl; sphere-is = refl })
 
 returns-4 : tie.Need-returns-4
 unfolding fed
 returns-4 c =
     let w = rw (c .before .before .before .number .ensures) at (c .before .before .write-refusal .ensures) in
-    rw (le-ltb _ _ (c .before .before .before .before .before .before .before .before .if1 .left), sym (c .before .before .before .before .before .before .before .is-header .ensures) ∙ c .before .before .before .before .before .before .if2 .left, le-ltb _ _ (c .before .before .before .before .before .if3 .left), fed) (refl, (refl, (w .0 ∙ zero-add _, (w .1, (refl, refl)))))
+    rw (le-ltb _ _ (c .before .before .before .before .before .before .before .before .if1 .left), sym (c .before .before .before .before .before .before .before .is-header .ensures) ∙ c .before .before .before .before .before .before .if2 .left, le-ltb _ _ (c .before .before .before .before .before .if3 .left), fed) (record { stage-is = refl; taken-is = refl; written-is = w .0 ∙ zero-add _; out-is = w .1; face-is = refl; sphere-is = refl })
 
 pub feed-header-spec : {M : Type 1} → statement M
 feed-header-spec =
