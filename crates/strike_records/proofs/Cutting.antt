@@ -1,6 +1,6 @@
 -- Cutting the input differently changes nothing: fed in pieces of any sizes, a session writes what document 01's definition gives for all bytes together. Assumes nothing.
 use mathlib.Core.Path.{_≡_, refl, sym, ap, _∙_}
-use mathlib.Core.Bool.{Bool, true, false, _&&_}
+use mathlib.Core.Bool.{Bool, true, false}
 use mathlib.Core.List.{List, [], _∷_, _++_, append-nil, append-assoc}
 use Prim.Native.Nat.{ℕ, zero, suc, _+_, _*_, _-_, _/_, _≤_, _<_, min}
 use native.Mathlib.Nat.{zero-add, le-trans, min-le-left, min-le-right, min-eq-left, min-eq-right}
@@ -8,14 +8,14 @@ use native.Mathlib.Omega.{arith}
 use borrow.Author.Tests.{lt-ltb, le-ltb, ltb-true, ltb-false}
 use lib.Dec.{ltb}
 use lib.Ieee.{Float}
-use lib.ListN.{length, take, drop, getD, length-append, length-drop, List·getD-append}
+use lib.ListN.{length, take, drop, length-append, length-drop, List·getD-append}
 use lib.Seq.{take-append-le, drop-append-le, drop-drop}
 use Rattle.answer.specs.Given.{Given, answered, refused}
 use Rattle.arithmetic.specs.Arith.{Arith}
 use Rattle.set.specs.Open.{openGiven}
 use Rattle.strike_records.specs.Line.{LINE, refusalLine}
 use Rattle.strike_records.specs.Record.{headed}
-use Rattle.strike_records.specs.Session.{Set, MAX-RECORDS, cutOff, lineOf, recordLine, recordSet, records, session, opened, program}
+use Rattle.strike_records.specs.Session.{Set, MAX-RECORDS, lineOf, recordLine, recordSet, records, session, opened, program}
 use Rattle.strike_records.specs.Pieces.{recordAt, answerable, Fed, still, setAfter, linesOf, recordsFed, fed, endLine, beginStage, beginLine, Piece, joined, Roomy, piecewise, programPiecewise}
 use Rattle.strike_records.specs.declared.session.Stage.{Stage}
 use Rattle.strike_records.specs.declared.session.Stage.the-variants.{Header, Records, Stopped}

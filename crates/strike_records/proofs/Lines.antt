@@ -1,7 +1,7 @@
 -- Records answered one after the other: the set after them, how many bytes their lines have, and one record more. Assumes nothing.
 use mathlib.Core.Path.{_≡_, refl, sym, ap, _∙_}
 use mathlib.Core.Bool.{Bool, true, false}
-use mathlib.Core.List.{List, [], _∷_, _++_}
+use mathlib.Core.List.{List, [], _++_}
 use Prim.Native.Nat.{ℕ, zero, suc, _+_, _*_, _-_, _/_, _≤_, min, zero-le}
 use native.Mathlib.Nat.{le-trans, min-le-left, min-le-right}
 use native.Mathlib.Numerals.{add-one}
@@ -19,8 +19,9 @@ use Rattle.coordinates.specs.declared.lonlat.LonLat.{LonLat}
 use Rattle.dodecahedron.specs.declared.used.Place.{Place}
 use Rattle.strike_records.specs.Line.{LINE, placeLine, lonLatLine, refusalLine}
 use Rattle.strike_records.specs.Record.{Request, place, unplace, requestIn, headed}
-use Rattle.strike_records.specs.Session.{Set, setOf, MAX-RECORDS, lineOf, lineFor, setFor, Answered, recordLine, recordSet}
+use Rattle.strike_records.specs.Session.{Set, setOf, MAX-RECORDS, lineOf, lineFor, setFor, recordLine, recordSet}
 use Rattle.strike_records.specs.Pieces.{recordAt, answerable, Fed, still, setAfter, linesOf, recordsFed, fed, fitting, endLine}
+use Rattle.strike_records.specs.Results.{Answered}
 use Rattle.strike_records.specs.declared.session.Stage.{Stage}
 use Rattle.strike_records.specs.declared.session.Stage.the-variants.{Header, Records, Stopped}
 use Rattle.strike_records.proofs.Written.{put-put, length-hex, length-decimal}

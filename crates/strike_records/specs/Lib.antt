@@ -3,3 +3,4 @@ pub mod Line
 pub mod Record
 pub mod Session
 pub mod Pieces
+pub mod Results

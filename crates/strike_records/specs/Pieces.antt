@@ -1,6 +1,5 @@
 -- Document 01, "The strike program": a session whose input arrives in pieces. Bytes that are not taken yet are kept, and what arrives next stands behind them. Definitions only.
 use Prim.Native.Nat.{ℕ, zero, suc, _+_, _*_, _-_, _/_, _≤_, min}
-use mathlib.Core.Path.{_≡_}
 use mathlib.Core.Bool.{Bool, true, false}
 use mathlib.Core.List.{List, [], _∷_, _++_}
 use lib.Dec.{ltb, eqb}
@@ -8,12 +7,10 @@ use lib.ListN.{length, take, drop}
 use lib.Ieee.{Float}
 use Rattle.answer.specs.Given.{Given, answered, refused}
 use Rattle.arithmetic.specs.Arith.{Arith}
-use Rattle.dodecahedron.specs.Slots.{put}
 use Rattle.set.specs.Open.{openGiven}
 use Rattle.strike_records.specs.Line.{LINE, refusalLine}
 use Rattle.strike_records.specs.Record.{headed}
 use Rattle.strike_records.specs.Session.{Set, MAX-RECORDS, recordLine, recordSet, opened}
-use Rattle.strike_records.specs.declared.session.Fed as declared
 use Rattle.strike_records.specs.declared.session.Stage.{Stage}
 use Rattle.strike_records.specs.declared.session.Stage.the-variants.{Header, Records, Stopped}
 
@@ -31,15 +28,6 @@ pub record Fed : Type 0 where
   pub taken : ℕ
   pub lines : List ℕ
   pub set : Set
-
--- what the function that feeds hands back and leaves in the lent buffers, where it is to come to f
-pub record Feeds (f : Fed) (given : declared.Fed) (before out : List ℕ) (face sphere : List Float) : Type 0 where
-  pub stage-is : given .stage ≡ f .stage
-  pub taken-is : given .taken ≡ f .taken
-  pub written-is : given .written ≡ length (f .lines)
-  pub out-is : out ≡ put before 0 (f .lines)
-  pub face-is : face ≡ f .set .face
-  pub sphere-is : sphere ≡ f .set .sphere
 
 -- nothing is taken
 abbrev pub still : Stage → Set → Fed

@@ -1,21 +1,17 @@
 -- Document 01, "The strike program": from all bytes of the input all bytes of the output. Definitions only.
-use Prim.Native.Nat.{ℕ, zero, suc, _+_}
-use mathlib.Core.Path.{_≡_}
+use Prim.Native.Nat.{ℕ, zero, suc}
 use mathlib.Core.Bool.{true, false}
 use mathlib.Core.List.{List, [], _∷_, _++_}
 use lib.Dec.{ltb}
-use lib.ListN.{length, take, drop, replicate}
+use lib.ListN.{length, take, drop}
 use lib.Ieee.{Float}
 use Rattle.answer.specs.Given.{Given, answered, refused}
 use Rattle.arithmetic.specs.Arith.{Arith}
 use Rattle.set.specs.Sizes.{FACE-STORE, SPHERE-STORE}
-use Rattle.dodecahedron.specs.Slots.{put}
 use Rattle.set.specs.Open.{openGiven, frameAfter, clearedAfter}
 use Rattle.dodecahedron.specs.Calls.{answerOf, usedOf, faceAfter, sphereAfter, placeGiven, unplaceGiven}
 use Rattle.strike_records.specs.Line.{placeLine, lonLatLine, refusalLine}
 use Rattle.strike_records.specs.Record.{Request, place, unplace, headed, requestIn}
-
--- ---- the set and the lines
 
 -- the three buffers
 pub record Set : Type 0 where
@@ -39,13 +35,6 @@ lineOf f (refused n) = refusalLine n
 abbrev pub cutOff : List ℕ → List ℕ
 cutOff [] = []
 cutOff (b ∷ bs) = refusalLine 13
-
--- what is written into a buffer from a place on, and what the two stores hold then: a line, and a set after it
-pub record Answered (line : List ℕ) (after : Set) (at : ℕ) (before : List ℕ) (end : ℕ) (out : List ℕ) (face sphere : List Float) : Type 0 where
-  pub end-is : end ≡ at + length line
-  pub out-is : out ≡ put before at line
-  pub face-is : face ≡ after .face
-  pub sphere-is : sphere ≡ after .sphere
 
 module _ (A : Arith) (table : List Float) where
   -- the line of a record on a set, by what it asks for

@@ -10,6 +10,9 @@ ghost use lib.ListN.{length};
 ghost use Rattle.dodecahedron.specs.Slots.{put};
 ghost use Rattle.strike_records.specs.Line.{SPACE, LINE, digit as Line·digit, hex, decimal, bitsOf, placeLine, lonLatLine, refusalLine};
 
+// Room for any line.
+pub(crate) const LINE: usize = 40;
+
 fn digit(d: u8) -> u8
     requires { ⌜ d < 16 ⌝ }
     ensures { λ r. ⌜ r ≡ Line·digit d ⌝ }

@@ -1,32 +1,23 @@
 // A session on slices. The caller keeps the bytes that were not taken, and lends them again
 // with what arrives next behind them: how the input is cut changes nothing.
-use crate::line::write_lon_lat;
-use crate::line::write_place;
+use crate::answers::answer_records;
+use crate::line::LINE;
 use crate::line::write_refusal;
-use crate::record::Request;
 use crate::record::is_header;
 use answer::Refusal;
-use coordinates::conversions::LonLatAnswer;
-use coordinates::coords::Face;
-use coordinates::lonlat::LonLat;
-use dodecahedron::used::PlaceAnswer;
 use set::open::OpenAnswer;
 ghost use mathlib.Core.Path.{_≡_};
-ghost use Prim.Native.Nat.{_+_, _*_, _≤_, _/_, min};
+ghost use Prim.Native.Nat.{_≤_, min};
 ghost use lib.ListN.{length};
 ghost use Rattle.arithmetic.specs.Arith.{ieee};
 ghost use Rattle.origin.specs.Origins.{ORIGINS};
 ghost use Rattle.dodecahedron.specs.Slots.{put};
 ghost use Rattle.set.specs.Open.{openGiven};
-ghost use Rattle.strike_records.specs.Line.{LINE, refusalLine};
-ghost use Rattle.strike_records.specs.Session.{setOf, opened, lineFor, setFor, recordLine, recordSet, Answered};
-ghost use Rattle.strike_records.specs.Pieces.{answerable, setAfter, linesOf, recordsFed, fed, Feeds, endLine, fitting, beginStage, beginLine, over, leftOver};
-ghost use Rattle.strike_records.specs.Record.{place, unplace};
-ghost use Rattle.answer.specs.Given.{answered};
+ghost use Rattle.strike_records.specs.Line.{refusalLine};
+ghost use Rattle.strike_records.specs.Session.{setOf, opened};
+ghost use Rattle.strike_records.specs.Pieces.{answerable, recordsFed, fed, endLine, fitting, beginStage, beginLine, over, leftOver};
+ghost use Rattle.strike_records.specs.Results.{Feeds};
 ghost use Rattle.strike_records.specs.declared.session.Stage.the-variants.{Header};
-
-// Room for any line.
-pub const LINE: usize = 40;
 
 // The records that are still taken, after the header; a stopped session takes nothing more.
 pub enum Stage {
@@ -44,82 +35,6 @@ pub struct Fed {
     pub stage: Stage,
     pub taken: usize,
     pub written: usize,
-}
-
-// Place on a set: the answer's line, from a place on.
-fn answer_place(
-    frame: &[f64],
-    face: &mut [f64],
-    sphere: &mut [f64],
-    lonlat: LonLat,
-    out: &mut [u8],
-    at: usize,
-) -> usize
-    requires { ⌜ at + LINE ≤ length (now out) ⌝ }
-    ensures { λ r. ⌜ Answered (lineFor ieee ORIGINS (setOf (now (frame .entry)) (now (face .entry)) (now (sphere .entry))) (answered (place lonlat))) (setFor ieee ORIGINS (setOf (now (frame .entry)) (now (face .entry)) (now (sphere .entry))) (answered (place lonlat))) at (now (out .entry)) r (now (out .exit)) (now (face .exit)) (now (sphere .exit)) ⌝ }
-{
-    match dodecahedron::calls::place(frame, face, sphere, lonlat) {
-        PlaceAnswer::Answered(p) => write_place(out, at, p),
-        PlaceAnswer::Refused(n) => write_refusal(out, at, answer::number(n)),
-    }
-}
-
-fn answer_unplace(
-    frame: &[f64],
-    face: &mut [f64],
-    sphere: &mut [f64],
-    point: Face,
-    origin: u8,
-    out: &mut [u8],
-    at: usize,
-) -> usize
-    requires { ⌜ at + LINE ≤ length (now out) ⌝ }
-    ensures { λ r. ⌜ Answered (lineFor ieee ORIGINS (setOf (now (frame .entry)) (now (face .entry)) (now (sphere .entry))) (answered (unplace point origin))) (setFor ieee ORIGINS (setOf (now (frame .entry)) (now (face .entry)) (now (sphere .entry))) (answered (unplace point origin))) at (now (out .entry)) r (now (out .exit)) (now (face .exit)) (now (sphere .exit)) ⌝ }
-{
-    match dodecahedron::calls::unplace(frame, face, sphere, point, origin) {
-        LonLatAnswer::Answered(l) => write_lon_lat(out, at, l),
-        LonLatAnswer::Refused(n) => write_refusal(out, at, answer::number(n)),
-    }
-}
-
-fn answer_record(
-    frame: &[f64],
-    face: &mut [f64],
-    sphere: &mut [f64],
-    bytes: &[u8],
-    out: &mut [u8],
-    at: usize,
-) -> usize
-    requires { ⌜ (length (now bytes) ≡ 10) × (at + LINE ≤ length (now out)) ⌝ }
-    ensures { λ r. ⌜ Answered (recordLine ieee ORIGINS (setOf (now (frame .entry)) (now (face .entry)) (now (sphere .entry))) (now (bytes .entry))) (recordSet ieee ORIGINS (setOf (now (frame .entry)) (now (face .entry)) (now (sphere .entry))) (now (bytes .entry))) at (now (out .entry)) r (now (out .exit)) (now (face .exit)) (now (sphere .exit)) ⌝ }
-{
-    match crate::record::decode(bytes) {
-        Request::Place(p) => answer_place(frame, face, sphere, p, out, at),
-        Request::Unplace(p, origin) => answer_unplace(frame, face, sphere, p, origin, out, at),
-        Request::Refused(n) => write_refusal(out, at, answer::number(n)),
-    }
-}
-
-// The first records of the input, one after the other.
-fn answer_records(
-    frame: &[f64],
-    face: &mut [f64],
-    sphere: &mut [f64],
-    input: &[u8],
-    out: &mut [u8],
-    count: usize,
-) -> usize
-    requires { ⌜ (count * 10 ≤ length (now input)) × (count * LINE ≤ length (now out)) ⌝ }
-    ensures { λ r. ⌜ Answered (linesOf ieee ORIGINS (setOf (now (frame .entry)) (now (face .entry)) (now (sphere .entry))) (now (input .entry)) count) (setAfter ieee ORIGINS (setOf (now (frame .entry)) (now (face .entry)) (now (sphere .entry))) (now (input .entry)) count) 0 (now (out .entry)) r (now (out .exit)) (now (face .exit)) (now (sphere .exit)) ⌝ }
-{
-    let mut i: usize = 0;
-    let mut written: usize = 0;
-    while i < count {
-        let at = i * 10;
-        written = answer_record(frame, face, sphere, &input[at..at + 10], out, written);
-        i += 1;
-    }
-    written
 }
 
 fn least(a: usize, b: usize) -> usize
@@ -183,7 +98,7 @@ fn feed_header(
 }
 
 // Answers all that it can of the input that has arrived and was not taken yet. It takes
-// the header and whole records, as many as there is room for: a line never has more than LINE bytes.
+// the header and whole records, as many as there is room for, with 40 bytes for each line.
 pub fn feed(
     stage: Stage,
     frame: &[f64],

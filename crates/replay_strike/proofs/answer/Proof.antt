@@ -2,8 +2,7 @@
 use mathlib.Core.Path.{_≡_, refl, sym, _∙_}
 use Prim.Native.Nat.{_≤_, _-_, zero-le}
 use native.Mathlib.Omega.{arith}
-use borrow.Author.Needs.{needs}
-use lib.ListN.{length, length-take, length-drop}
+use lib.ListN.{length, length-take}
 use lib.Seq.{length-take-le}
 use Rattle.replay_strike.proofs.answer.Statement.{statement}
 use Rattle.replay_strike.proofs.answer.Tie as tie

@@ -1,7 +1,6 @@
 -- `replay_strike::main` is safe and ends. The loop's invariant bounds what is counted. The measure is how many sessions may still follow. Assumes nothing.
 use Prim.Native.Nat.{_≤_, _*_, _-_}
 use native.Mathlib.Omega.{arith}
-use borrow.Author.Needs.{needs}
 use Rattle.replay_strike.proofs.main.Statement.{statement}
 use Rattle.replay_strike.proofs.main.Tie as tie
 

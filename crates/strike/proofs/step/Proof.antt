@@ -1,6 +1,5 @@
 -- `strike::step` is safe, and the bytes that it keeps are in the buffer. Assumes nothing.
 use mathlib.Core.Path.{sym}
-use native.Mathlib.Omega.{arith}
 use borrow.Author.Needs.{needs}
 use lib.Seq.{length-take-le}
 use Rattle.strike.proofs.step.Statement.{statement}

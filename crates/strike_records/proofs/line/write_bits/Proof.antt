@@ -1,5 +1,5 @@
 -- `line::write_bits` meets its contract. Assumes nothing.
-use mathlib.Core.Path.{_≡_, refl, ap, _∙_}
+use mathlib.Core.Path.{refl, ap, _∙_}
 use mathlib.Core.List.{_∷_}
 use Prim.Native.Nat.{_+_}
 use native.Mathlib.Omega.{arith}

@@ -6,8 +6,8 @@ use native.Mathlib.Omega.{arith}
 use borrow.Author.Needs.{needs}
 use lib.Ieee.{binary64, toBits}
 use lib.ListN.{length, length-set, length-append}
-use Rattle.strike_records.specs.Line.{SPACE, NEWLINE, hex, decimal, bitsOf, lonLatLine}
-use Rattle.strike_records.proofs.Written.{wrote-byte, wrote-more, wrote-store, wrote-is, length-hex, length-decimal}
+use Rattle.strike_records.specs.Line.{SPACE, NEWLINE, bitsOf, lonLatLine}
+use Rattle.strike_records.proofs.Written.{wrote-byte, wrote-more, wrote-store, wrote-is, length-hex}
 use Rattle.strike_records.proofs.line.write_lon_lat.Statement.{statement}
 use Rattle.strike_records.proofs.line.write_lon_lat.Tie as tie
 

@@ -6,7 +6,7 @@ use native.Mathlib.Omega.{arith}
 use borrow.Author.Needs.{needs}
 use lib.Ieee.{binary64, toBits}
 use lib.ListN.{length, length-set, length-append}
-use Rattle.strike_records.specs.Line.{SPACE, NEWLINE, hex, decimal, bitsOf, placeLine}
+use Rattle.strike_records.specs.Line.{SPACE, NEWLINE, decimal, bitsOf, placeLine}
 use Rattle.strike_records.proofs.Written.{wrote-byte, wrote-more, wrote-store, wrote-is, length-hex, length-decimal}
 use Rattle.strike_records.proofs.line.write_place.Statement.{statement}
 use Rattle.strike_records.proofs.line.write_place.Tie as tie

@@ -1,13 +1,12 @@
 -- `line::write_refusal` meets its contract. Assumes nothing.
 use mathlib.Core.Path.{_≡_, refl, _∙_}
-use mathlib.Core.List.{_∷_, append-assoc}
+use mathlib.Core.List.{_∷_}
 use Prim.Native.Nat.{_+_}
 use native.Mathlib.Omega.{arith}
 use borrow.Author.Needs.{needs}
-use lib.Ieee.{binary64, toBits}
-use lib.ListN.{length, length-set, length-append}
-use Rattle.strike_records.specs.Line.{SPACE, NEWLINE, hex, decimal, bitsOf, refusalLine}
-use Rattle.strike_records.proofs.Written.{wrote-byte, wrote-more, wrote-store, wrote-is, length-hex, length-decimal}
+use lib.ListN.{length, length-set}
+use Rattle.strike_records.specs.Line.{SPACE, NEWLINE, decimal, refusalLine}
+use Rattle.strike_records.proofs.Written.{wrote-byte, wrote-more, wrote-store, wrote-is, length-decimal}
 use Rattle.strike_records.proofs.line.write_refusal.Statement.{statement}
 use Rattle.strike_records.proofs.line.write_refusal.Tie as tie
 

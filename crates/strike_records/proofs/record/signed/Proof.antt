@@ -1,15 +1,15 @@
 -- `record::signed` meets its contract. Assumes nothing.
-use mathlib.Core.Path.{_≡_, refl, ap, sym, _∙_}
-use mathlib.Core.Bool.{true, false}
-use Prim.Native.Nat.{ℕ, _+_, _-_, _<_, _≤_}
+use mathlib.Core.Path.{_≡_, ap, _∙_}
+use mathlib.Core.Bool.{false}
+use Prim.Native.Nat.{ℕ, _-_, _<_, _≤_}
 use native.Mathlib.Omega.{arith}
 use borrow.Author.Needs.{needs}
 use borrow.Author.Tests.{lt-ltb, le-ltb}
 use lib.IntN.{pos}
-use lib.Ieee.{Float, binary64, round, neg, ofInt}
+use lib.Ieee.{binary64, neg, ofInt}
 use Rattle.arithmetic.specs.Arith.{ieee}
 use Rattle.arithmetic.proofs.Rounding.{neg-round}
-use Rattle.strike_records.specs.Record.{signed, fourAt}
+use Rattle.strike_records.specs.Record.{signed}
 use Rattle.strike_records.proofs.record.signed.Statement.{statement}
 use Rattle.strike_records.proofs.record.signed.Tie as tie
 

@@ -1,7 +1,6 @@
 -- `session::begin` meets its contract. Assumes nothing.
-use mathlib.Core.Path.{_≡_, refl, sym, ap, _∙_}
-use mathlib.Core.List.{List, []}
-use Prim.Native.Nat.{ℕ, zero-le}
+use mathlib.Core.Path.{sym, ap, _∙_}
+use Prim.Native.Nat.{zero-le}
 use borrow.Author.Needs.{needs}
 use lib.ListN.{length}
 use Rattle.answer.specs.Given.{Given}

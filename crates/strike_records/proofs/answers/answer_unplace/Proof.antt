@@ -1,9 +1,9 @@
--- `session::answer_unplace` meets its contract. Assumes nothing.
+-- `answers::answer_unplace` meets its contract. Assumes nothing.
 use mathlib.Core.Path.{sym, ap, _∙_}
 use borrow.Author.Needs.{needs}
 use Rattle.coordinates.specs.Conversions.{givenLonLat}
-use Rattle.strike_records.proofs.session.answer_unplace.Statement.{statement}
-use Rattle.strike_records.proofs.session.answer_unplace.Tie as tie
+use Rattle.strike_records.proofs.answers.answer_unplace.Statement.{statement}
+use Rattle.strike_records.proofs.answers.answer_unplace.Tie as tie
 
 returns : tie.Need-returns
 returns c =

@@ -1,4 +1,4 @@
--- `session::answer_records` meets its contract. The loop's invariant: so far it is the contract with i for the count. Assumes nothing.
+-- `answers::answer_records` meets its contract. The loop's invariant: so far it is the contract with i for the count. Assumes nothing.
 use mathlib.Core.Path.{_≡_, refl, sym, _∙_}
 use Prim.Native.Nat.{_-_, _≤_, zero-le}
 use native.Mathlib.Omega.{arith}
@@ -7,11 +7,12 @@ use lib.ListN.{length, length-take, length-drop}
 use Rattle.arithmetic.specs.Arith.{ieee}
 use Rattle.origin.specs.Origins.{ORIGINS}
 use Rattle.dodecahedron.specs.Slots.{put}
-use Rattle.strike_records.specs.Session.{setOf, Answered}
+use Rattle.strike_records.specs.Session.{setOf}
 use Rattle.strike_records.specs.Pieces.{linesOf, setAfter}
+use Rattle.strike_records.specs.Results.{Answered}
 use Rattle.strike_records.proofs.Lines.{lines-fit, set-is, answered-more, part-is}
-use Rattle.strike_records.proofs.session.answer_records.Statement.{statement}
-use Rattle.strike_records.proofs.session.answer_records.Tie as tie
+use Rattle.strike_records.proofs.answers.answer_records.Statement.{statement}
+use Rattle.strike_records.proofs.answers.answer_records.Tie as tie
 
 abbrev Inv-loop : tie.InvT-loop
 Inv-loop frame face₀ sphere₀ input out₀ count i₀ written₀ face sphere out i written =

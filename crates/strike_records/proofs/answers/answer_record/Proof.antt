@@ -1,10 +1,10 @@
--- `session::answer_record` meets its contract. Assumes nothing.
+-- `answers::answer_record` meets its contract. Assumes nothing.
 use mathlib.Core.Path.{refl, sym, ap, _∙_}
 use borrow.Author.Needs.{needs}
 use Rattle.strike_records.specs.Record.{givenRequest}
 use Rattle.strike_records.specs.Session.{recordLine, recordSet}
-use Rattle.strike_records.proofs.session.answer_record.Statement.{statement}
-use Rattle.strike_records.proofs.session.answer_record.Tie as tie
+use Rattle.strike_records.proofs.answers.answer_record.Statement.{statement}
+use Rattle.strike_records.proofs.answers.answer_record.Tie as tie
 
 returns : tie.Need-returns
 unfolding recordLine recordSet

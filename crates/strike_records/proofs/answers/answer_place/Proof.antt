@@ -1,9 +1,9 @@
--- `session::answer_place` meets its contract. Assumes nothing.
+-- `answers::answer_place` meets its contract. Assumes nothing.
 use mathlib.Core.Path.{sym, ap, _∙_}
 use borrow.Author.Needs.{needs}
 use Rattle.dodecahedron.specs.Calls.{givenPlace}
-use Rattle.strike_records.proofs.session.answer_place.Statement.{statement}
-use Rattle.strike_records.proofs.session.answer_place.Tie as tie
+use Rattle.strike_records.proofs.answers.answer_place.Statement.{statement}
+use Rattle.strike_records.proofs.answers.answer_place.Tie as tie
 
 returns : tie.Need-returns
 returns c =
