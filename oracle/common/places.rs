@@ -7,6 +7,7 @@ use a5::core::coordinate_transforms::{from_lon_lat, to_spherical};
 use a5::projections::crs::CRS;
 use a5::steps::atan;
 use std::f64::consts::{FRAC_PI_2, PI};
+use std::sync::OnceLock;
 
 // The point itself, and with either number moved by one unit and by two.
 pub fn around(p: [f64; 2]) -> Vec<[f64; 2]> {
@@ -32,10 +33,14 @@ pub fn meridians() -> Vec<[f64; 2]> {
     list
 }
 
-// The Rust's frame.
+// The Rust's frame, which it makes from nothing: once is enough.
 pub fn rows() -> Vec<[f64; 3]> {
-    let crs = CRS::new().expect("the frame has 62 rows");
-    crs.oracle_rows().iter().map(|row| (*row).into()).collect()
+    static ROWS: OnceLock<Vec<[f64; 3]>> = OnceLock::new();
+    let made = || {
+        let crs = CRS::new().expect("the frame has 62 rows");
+        crs.oracle_rows().iter().map(|row| (*row).into()).collect()
+    };
+    ROWS.get_or_init(made).clone()
 }
 
 // On the borders between faces: the dodecahedron's vertices and midpoints of edges, and halfway between the two.

@@ -6,11 +6,11 @@
 pub const FRAME: usize = 186;
 pub const FACE_STORE: usize = 210;
 pub const SPHERE_STORE: usize = 2400;
+pub const RIGHT: [usize; 3] = [FRAME, FACE_STORE, SPHERE_STORE];
 
 // "1: frame isn't 186 long. 2: face store isn't 210 long. 3: sphere store isn't 2,400 long." "Tried in table order."
 pub fn lengths(given: [usize; 3]) -> Result<(), u8> {
-    let wanted = [FRAME, FACE_STORE, SPHERE_STORE];
-    match (0..3).find(|i| given[*i] != wanted[*i]) {
+    match (0..3).find(|i| given[*i] != RIGHT[*i]) {
         Some(i) => Err(i as u8 + 1),
         None => Ok(()),
     }

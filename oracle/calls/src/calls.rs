@@ -5,7 +5,7 @@ use crate::common::fields::{
     lon_lat, of_spherical, of_spherical_triangle, of_triangle, of_whole, spherical, whole,
 };
 use crate::common::refusals::{check, finite, lengths};
-use crate::set::{new_projection, Set};
+use crate::set::{empty_projection, Set};
 use a5::coordinate_systems::{Face, Spherical};
 use a5::core::coordinate_transforms::{from_lon_lat, to_lon_lat};
 use a5::core::origin::find_nearest_origin;
@@ -91,11 +91,16 @@ fn places<T>(cache: &[Option<T>]) -> Vec<usize> {
     (0..cache.len()).filter(|i| cache[*i].is_some()).collect()
 }
 
-// The face slots and the sphere slot that a call uses: those that a new projection of the Rust fills. "An unreflected call
-// uses face slot i and its sphere slot; a reflected one uses 10+i, 20+i and its sphere slot."
+// The face slots and the sphere slot that a call uses: those that a projection of the Rust without triangles fills. "An
+// unreflected call uses face slot i and its sphere slot; a reflected one uses 10+i, 20+i and its sphere slot."
 fn used(question: &Question) -> (Vec<usize>, usize) {
-    let mut rust = new_projection();
+    let mut rust = empty_projection();
     ask(&mut rust, question).expect("an opened set has every vertex");
+    has(&rust)
+}
+
+// The slots of the only triangles that a projection has.
+fn has(rust: &DodecahedronProjection) -> (Vec<usize>, usize) {
     let faces = places(rust.oracle_face_triangles());
     let spheres = places(rust.oracle_spherical_triangles());
     assert!(faces.len() == 1 && faces[0] < 10 || faces.len() == 2 && faces[1] == faces[0] + 10);
@@ -106,7 +111,12 @@ fn used(question: &Question) -> (Vec<usize>, usize) {
 // "Empty used slots are written on success." The triangles are those that the Rust has by then; a slot 20+i that it did not
 // need, since its sphere slot was filled, it is asked for.
 fn keep(set: &mut Set, rust: &mut DodecahedronProjection, question: &Question) {
-    let (faces, sphere) = used(question);
+    // without a filled slot the projection had no triangles before it was asked
+    let (faces, sphere) = if set.is_empty() {
+        has(rust)
+    } else {
+        used(question)
+    };
     for slot in faces {
         if set.face_slot(slot).is_none() {
             let t = rust.oracle_face_triangle(slot % 10, slot >= 10, slot >= 20);

@@ -4,9 +4,10 @@ use crate::common::arguments::SMALLEST;
 use crate::common::fields::whole;
 use crate::common::generator::Generator;
 use crate::common::places::rows;
+use crate::common::refusals::RIGHT;
 use crate::common::values::{moved, near};
 use crate::inputs::{forward, inverse, lon_lat_of, place, point_in, position_of, unplace, Asked};
-use crate::script::{Script, RIGHT};
+use crate::script::Script;
 use crate::set::Set;
 use std::f64::consts::PI;
 

@@ -7,7 +7,7 @@ use crate::common::generator::Generator;
 use crate::common::places::{around, borders};
 use crate::common::values::{both_signs, moved, near};
 use crate::refused;
-use crate::set::new_projection;
+use crate::set::empty_projection;
 use a5::coordinate_systems::Face;
 use a5::core::constants::{DISTANCE_TO_EDGE, PI_OVER_5, TWO_PI_OVER_5};
 use a5::core::coordinate_transforms::{to_cartesian, to_lon_lat, to_spherical};
@@ -50,7 +50,7 @@ pub fn point_in(g: &mut Generator, index: usize, reflected: bool) -> [f64; 2] {
 }
 
 pub fn position_of(p: [f64; 2], id: usize) -> [f64; 2] {
-    let found = new_projection().inverse(Face::new(p[0], p[1]), id as u8);
+    let found = empty_projection().inverse(Face::new(p[0], p[1]), id as u8);
     of_spherical(found.expect("an answer"))
 }
 
@@ -104,7 +104,7 @@ fn places(g: &mut Generator) -> Vec<Asked> {
 }
 
 // The two origins nearest to a position.
-fn nearest_two(p: [f64; 2]) -> [usize; 2] {
+pub fn nearest_two(p: [f64; 2]) -> [usize; 2] {
     let first = find_nearest_origin(spherical(p)).id;
     let others = get_origins().iter().filter(|o| o.id != first);
     let distance = |id: u8| haversine(spherical(p), get_origins()[id as usize].axis);
@@ -155,7 +155,7 @@ fn positions(g: &mut Generator) -> Vec<Asked> {
 
 // The corners of the thirty triangles, each once.
 fn corners() -> Vec<[f64; 2]> {
-    let mut rust = new_projection();
+    let mut rust = empty_projection();
     let mut list: Vec<[f64; 2]> = Vec::new();
     for slot in 0..30 {
         let t = of_triangle(rust.oracle_face_triangle(slot % 10, slot >= 10, slot >= 20));

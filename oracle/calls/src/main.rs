@@ -13,7 +13,8 @@ mod set;
 
 use common::generator::Generator;
 use common::list::List;
-use script::{Script, RIGHT};
+use common::refusals::RIGHT;
+use script::Script;
 
 fn answers() -> List {
     let mut g = Generator::new(5);

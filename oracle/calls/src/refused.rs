@@ -3,10 +3,10 @@
 use crate::calls::{Call, Forward, Inverse, Place, Unplace};
 use crate::common::arguments::pairs;
 use crate::common::fields::whole;
-use crate::common::refusals::{FACE_STORE, FRAME, SPHERE_STORE};
+use crate::common::refusals::{FACE_STORE, FRAME, RIGHT, SPHERE_STORE};
 use crate::common::values::moved;
 use crate::inputs::Asked;
-use crate::script::{Script, RIGHT};
+use crate::script::Script;
 
 // A call's first two numbers with the limits of their ranges.
 fn limits(call: Call) -> [f64; 2] {

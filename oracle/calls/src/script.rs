@@ -5,11 +5,9 @@
 use crate::calls::{self, Call};
 use crate::common::fields::whole;
 use crate::common::list::List;
-use crate::common::refusals::{lengths, FACE_STORE, FRAME, SPHERE_STORE};
+use crate::common::refusals::{lengths, FACE_STORE, FRAME, RIGHT, SPHERE_STORE};
 use crate::set::{new_projection, Set, FACE_SLOTS, FACE_WIDTH, SPHERE_SLOTS, SPHERE_WIDTH};
 use a5::projections::dodecahedron::DodecahedronProjection;
-
-pub const RIGHT: [usize; 3] = [FRAME, FACE_STORE, SPHERE_STORE];
 
 const FACE_AT: usize = FRAME + 1;
 const SPHERE_AT: usize = FACE_AT + FACE_STORE + 1;

@@ -2,7 +2,7 @@
 
 use crate::calls::{call, Forward, Inverse, Place, Unplace};
 use crate::common::fields::whole;
-use crate::script::RIGHT;
+use crate::common::refusals::RIGHT;
 use crate::set::{new_projection, Set};
 use a5::coordinate_systems::Face;
 use std::f64::consts::PI;

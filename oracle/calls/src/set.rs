@@ -24,6 +24,13 @@ pub fn new_projection() -> DodecahedronProjection {
     DodecahedronProjection::new().expect("the frame has 62 rows")
 }
 
+// The same without making its frame again.
+pub fn empty_projection() -> DodecahedronProjection {
+    let rows = rows().iter().map(|row| cartesian(row)).collect();
+    let (faces, spheres) = (vec![None; FACE_SLOTS], vec![None; SPHERE_SLOTS]);
+    DodecahedronProjection::oracle_with(CRS::oracle_with(rows), faces, spheres)
+}
+
 // "A slot's first number is its mark: 1.0 is filled, anything else is empty. Six or nine coordinates follow."
 pub fn filled(store: &[f64], width: usize, slot: usize) -> Option<&[f64]> {
     let numbers = &store[slot * width..(slot + 1) * width];
@@ -83,6 +90,11 @@ impl Set {
 
     pub fn sphere_slot(&self, slot: usize) -> Option<&[f64]> {
         filled(&self.sphere, SPHERE_WIDTH, slot)
+    }
+
+    pub fn is_empty(&self) -> bool {
+        let faces = (0..FACE_SLOTS).all(|slot| self.face_slot(slot).is_none());
+        faces && (0..SPHERE_SLOTS).all(|slot| self.sphere_slot(slot).is_none())
     }
 
     pub fn is_full(&self) -> bool {
