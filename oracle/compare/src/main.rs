@@ -1,0 +1,59 @@
+// The proved library against the given Rust. Against the Rust with document 01's elementary steps in it: N inputs a call,
+// answers, refusals and whole buffers, bit for bit, up to the first difference. With --distance: how far from the Rust as it is.
+
+// What the oracle of the calls on a set has is used here as it stands; `script` alone is another, which compares.
+#[allow(dead_code)]
+#[path = "../../calls/src/calls.rs"]
+mod calls;
+#[path = "../../common/mod.rs"]
+mod common;
+#[path = "../../coordinates/src/calls.rs"]
+mod conversions;
+mod counts;
+mod differential;
+mod distance;
+mod draw;
+#[path = "../../calls/src/foreign.rs"]
+mod foreign;
+mod foreign_sets;
+#[allow(dead_code)]
+#[path = "../../calls/src/inputs.rs"]
+mod inputs;
+mod library;
+#[allow(dead_code)]
+#[path = "../../geometry/src/calls.rs"]
+mod nearest;
+mod outcome;
+mod plain;
+#[path = "../../calls/src/refused.rs"]
+mod refused;
+mod row;
+mod script;
+mod self_test;
+#[allow(dead_code)]
+#[path = "../../calls/src/set.rs"]
+mod set;
+mod spoil;
+mod step_distance;
+
+use spoil::Spoil;
+
+fn number(word: &str) -> u64 {
+    word.parse().expect("a whole number")
+}
+
+// Three words after N and SEED, which the script does not hand on, name what the self-test has changed.
+fn main() {
+    let words: Vec<String> = std::env::args().skip(1).collect();
+    let words: Vec<&str> = words.iter().map(String::as_str).collect();
+    match words[..] {
+        ["--self-test"] => self_test::run(),
+        ["--distance", n, seed] => distance::run(number(n) as usize, number(seed)),
+        [n, seed] => differential::run(number(n), number(seed), None),
+        [n, seed, call, what, place] => {
+            let spoil = Spoil::named(call, what, place).expect("a call, what is changed and where");
+            differential::run(number(n), number(seed), Some(spoil));
+        }
+        _ => panic!("the words that the script hands on"),
+    }
+}

@@ -1,0 +1,46 @@
+// Runs this program with one bit changed on the library's side: every such run must end at a difference in that call. A run
+// with nothing changed must not.
+
+use crate::counts::{CALLS, PLACES};
+use crate::spoil::WHATS;
+use std::process::Command;
+
+// How a run ended, and its first line.
+fn ended(words: &[&str]) -> (Option<i32>, String) {
+    let program = std::env::current_exe().expect("this program");
+    let output = Command::new(program).args(["60", "1"]).args(words).output();
+    let output = output.expect("it runs");
+    let text = String::from_utf8_lossy(&output.stdout).into_owned();
+    (
+        output.status.code(),
+        text.lines().next().unwrap_or("").into(),
+    )
+}
+
+// Open has no answer and is tried on sets that are opened anew, the calls that take no set have no buffers, and show is not
+// tried on newly opened sets.
+fn can_be(call: &str, what: &str, place: &str) -> bool {
+    let buffers = ["frame", "face", "sphere", "behind"].contains(&what);
+    match call {
+        "nearest" | "from_lon_lat" | "to_lon_lat" => place == "no set" && !buffers,
+        "open" => place == "newly opened" && (buffers || what == "status"),
+        "show" | "slot_state" => ["kept set", "foreign"].contains(&place),
+        _ => place != "no set",
+    }
+}
+
+pub fn run() {
+    assert_eq!(ended(&[]).0, Some(0), "nothing is changed");
+    let mut tried = 0;
+    for call in CALLS {
+        for what in WHATS {
+            for (_, place) in PLACES.iter().filter(|p| can_be(call, what, p.1)) {
+                let (status, line) = ended(&[call, what, place]);
+                let found = status == Some(1) && line == format!("DIFFERENCE in {call} ({place})");
+                assert!(found, "{call}, {what}, {place}: {status:?} {line}");
+                tried += 1;
+            }
+        }
+    }
+    println!("{tried} changes of one bit, each found");
+}

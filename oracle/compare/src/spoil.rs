@@ -1,0 +1,50 @@
+// For the self-test: one bit on the library's side is changed once, so that a comparison that overlooks it shows.
+
+use crate::counts::{Where, CALLS, PLACES};
+use crate::library::Buffers;
+use crate::outcome::Outcome;
+
+// The numbers of an answer, the status, what a refusal leaves in the answer, one number of each buffer and one behind.
+pub const WHATS: [&str; 7] = [
+    "answer", "status", "left", "frame", "face", "sphere", "behind",
+];
+
+#[derive(Clone, Copy)]
+pub struct Spoil {
+    call: usize,
+    what: &'static str,
+    pub place: Where,
+}
+
+fn flip(x: &mut f64) {
+    *x = f64::from_bits(x.to_bits() ^ 1);
+}
+
+impl Spoil {
+    pub fn named(call: &str, what: &str, place: &str) -> Option<Spoil> {
+        Some(Spoil {
+            call: CALLS.iter().position(|name| *name == call)?,
+            what: WHATS.iter().find(|name| **name == what)?,
+            place: PLACES.iter().find(|p| p.1 == place)?.0,
+        })
+    }
+
+    // Whether it has been done at this call.
+    pub fn done(&self, call: usize, outcome: &mut Outcome, buffers: Option<&mut Buffers>) -> bool {
+        if call != self.call {
+            return false;
+        }
+        let last = outcome.numbers.last_mut();
+        match (self.what, outcome.status, last, buffers) {
+            ("status", _, _, _) => outcome.status ^= 1,
+            ("answer", 0, Some(x), _) => flip(x),
+            ("left", 1.., Some(x), _) => flip(x),
+            ("frame", _, _, Some(b)) => flip(&mut b.numbers[0][100]),
+            ("face", _, _, Some(b)) => flip(&mut b.numbers[1][209]),
+            ("sphere", _, _, Some(b)) => flip(&mut b.numbers[2][1234]),
+            ("behind", _, _, Some(b)) => flip(&mut b.numbers[2][2400]),
+            _ => return false,
+        }
+        true
+    }
+}
