@@ -5,10 +5,9 @@ use libc::STDIN_FILENO;
 use libc::STDOUT_FILENO;
 use strike_records::session::Stage;
 use strike_records::session::begin;
-use strike_records::session::feed;
+use strike_records::session::feed_buffer;
 use strike_records::session::finish;
 use strike_records::session::is_over;
-use strike_records::session::keep_rest;
 ghost use mathlib.Core.Path.{_≡_};
 ghost use Prim.Native.Nat.{_≤_};
 ghost use lib.ListN.{length};
@@ -58,20 +57,18 @@ fn step(
             is_ended: true,
         };
     }
-    let filled = kept + n;
-    let fed = feed(stage, frame, face, sphere, &buffer[..filled], out);
-    if !io::write_all(STDOUT_FILENO, &out[..fed.written]) {
+    let turn = feed_buffer(stage, frame, face, sphere, buffer, kept + n, out);
+    if !io::write_all(STDOUT_FILENO, &out[..turn.written]) {
         return Standing {
             stage: Stage::Stopped,
             kept: 0,
             is_ended: true,
         };
     }
-    let rest = keep_rest(buffer, fed.taken, filled);
-    let next = fed.stage;
+    let next = turn.stage;
     Standing {
         stage: next,
-        kept: rest,
+        kept: turn.kept,
         is_ended: false,
     }
 }

@@ -1,9 +1,9 @@
 -- Records answered one after the other: the set after them, how many bytes their lines have, and one record more. Assumes nothing.
 use mathlib.Core.Path.{_≡_, refl, sym, ap, _∙_}
 use mathlib.Core.Bool.{Bool, true, false}
-use mathlib.Core.List.{List, [], _++_}
+use mathlib.Core.List.{List, [], _∷_, _++_}
 use Prim.Native.Nat.{ℕ, zero, suc, _+_, _*_, _-_, _/_, _≤_, min, zero-le}
-use native.Mathlib.Nat.{le-trans, min-le-left, min-le-right}
+use native.Mathlib.Nat.{zero-min, min-zero, suc-min-suc, le-trans, min-le-left, min-le-right}
 use native.Mathlib.Numerals.{add-one}
 use native.Mathlib.Omega.{arith}
 use borrow.Author.Tests.{ltb-false}
@@ -109,6 +109,12 @@ part-is bytes k =
 -- a part up to the end
 pub tail-is : (l : List ℕ) (n : ℕ) → take (length l - n) (drop n l) ≡ drop n l
 tail-is l n = take-all (length l - n) (drop n l) (simp length-drop (omega arith))
+
+-- no more is taken than there is
+pub take-min : (n : ℕ) (l : List ℕ) → take (min n (length l)) l ≡ take n l
+take-min zero l = ap (λ (k : ℕ). take k l) (zero-min (length l))
+take-min (suc n) [] = ap (λ (k : ℕ). take k []) (min-zero (suc n))
+take-min (suc n) (x ∷ l) = ap (λ (k : ℕ). take k (x ∷ l)) (suc-min-suc n (length l)) ∙ ap (λ (r : List ℕ). x ∷ r) (take-min n l)
 
 -- ---- the input's end
 pub nothing-fits : (room : ℕ) → fitting room [] ≡ []

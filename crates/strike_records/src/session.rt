@@ -8,7 +8,7 @@ use answer::Refusal;
 use set::open::OpenAnswer;
 ghost use mathlib.Core.Path.{_≡_};
 ghost use Prim.Native.Nat.{_≤_, min};
-ghost use lib.ListN.{length};
+ghost use lib.ListN.{length, take};
 ghost use Rattle.arithmetic.specs.Arith.{ieee};
 ghost use Rattle.origin.specs.Origins.{ORIGINS};
 ghost use Rattle.dodecahedron.specs.Slots.{put};
@@ -16,7 +16,7 @@ ghost use Rattle.set.specs.Open.{openGiven};
 ghost use Rattle.strike_records.specs.Line.{refusalLine};
 ghost use Rattle.strike_records.specs.Session.{setOf, opened};
 ghost use Rattle.strike_records.specs.Pieces.{answerable, recordsFed, fed, endLine, fitting, beginStage, beginLine, over, leftOver};
-ghost use Rattle.strike_records.specs.Results.{Feeds};
+ghost use Rattle.strike_records.specs.Results.{Feeds, Turns};
 ghost use Rattle.strike_records.specs.declared.session.Stage.the-variants.{Header};
 
 // The records that are still taken, after the header; a stopped session takes nothing more.
@@ -28,6 +28,12 @@ pub enum Stage {
 
 pub struct Begun {
     pub stage: Stage,
+    pub written: usize,
+}
+
+pub struct Turn {
+    pub stage: Stage,
+    pub kept: usize,
     pub written: usize,
 }
 
@@ -121,6 +127,31 @@ pub fn feed(
     }
 }
 
+// The same on a buffer that holds the bytes that were not taken, first those that were kept and then
+// those that have just arrived. Those that are still not taken are at its start afterwards.
+pub fn feed_buffer(
+    stage: Stage,
+    frame: &[f64],
+    face: &mut [f64],
+    sphere: &mut [f64],
+    buffer: &mut [u8],
+    filled: usize,
+    out: &mut [u8],
+) -> Turn
+    ensures { λ r. ⌜ Turns (fed ieee ORIGINS stage (setOf (now (frame .entry)) (now (face .entry)) (now (sphere .entry))) (take filled (now (buffer .entry))) (length (now (out .entry)))) filled r (now (buffer .entry)) (now (buffer .exit)) (now (out .entry)) (now (out .exit)) (now (face .exit)) (now (sphere .exit)) ⌝ }
+    ensures { λ r. ⌜ (r .kept ≤ length (now (buffer .entry))) × (r .written ≤ length (now (out .entry))) ⌝ }
+{
+    let end = least(filled, buffer.len());
+    let fed = feed(stage, frame, face, sphere, &buffer[..end], out);
+    let kept = keep_rest(buffer, fed.taken, end);
+    let next = fed.stage;
+    Turn {
+        stage: next,
+        kept,
+        written: fed.written,
+    }
+}
+
 // Opens the set, before anything is read. Where open refuses, that is the only line.
 pub fn begin(frame: &mut [f64], face: &mut [f64], sphere: &mut [f64], out: &mut [u8]) -> Begun
     ensures { λ r. ⌜ r .stage ≡ beginStage (openGiven ieee ORIGINS (now (frame .entry)) (now (face .entry)) (now (sphere .entry))) ⌝ }
@@ -188,7 +219,7 @@ pub fn is_over(stage: Stage) -> bool
 }
 
 // Moves what was not taken of a buffer's first bytes to its start, and returns how many that are.
-pub fn keep_rest(buffer: &mut [u8], taken: usize, filled: usize) -> usize
+fn keep_rest(buffer: &mut [u8], taken: usize, filled: usize) -> usize
     ensures { λ r. ⌜ r ≡ length (leftOver (now (buffer .entry)) taken filled) ⌝ }
     ensures { λ _. ⌜ now (buffer .exit) ≡ put (now (buffer .entry)) 0 (leftOver (now (buffer .entry)) taken filled) ⌝ }
     ensures { λ r. ⌜ r ≤ length (now (buffer .entry)) ⌝ }

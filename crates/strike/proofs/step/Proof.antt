@@ -5,9 +5,6 @@ use lib.Seq.{length-take-le}
 use Rattle.strike.proofs.step.Statement.{statement}
 use Rattle.strike.proofs.step.Tie as tie
 
-slice-aggregate-feed : tie.Need-slice-aggregate-feed
-slice-aggregate-feed c = sym (length-take-le _ _ (search needs))
-
 slice-aggregate-write-all : tie.Need-slice-aggregate-write-all
 slice-aggregate-write-all c = sym (length-take-le _ _ (search needs))
 
@@ -24,8 +21,6 @@ step-spec =
     (λ c. search needs)
     (λ c. search needs)
     (λ c. search needs)
-    (λ c. search needs)
-    slice-aggregate-feed
     (λ c κs. search needs)
     (λ c. search needs)
     slice-aggregate-write-all
@@ -35,7 +30,6 @@ step-spec =
     (λ c. search needs)
     (λ c. search needs)
     (λ c. search needs)
-    (λ c κs. search needs)
     (λ c. search needs)
     (λ c. search needs)
     (λ c. search needs)
