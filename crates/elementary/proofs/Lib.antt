@@ -1,6 +1,7 @@
 -- Laws behind the proofs of the functions.
 pub mod SignBit
 pub mod Fraction
+pub mod Guess
 pub mod Turn
 pub mod Mask
 pub mod Lead
