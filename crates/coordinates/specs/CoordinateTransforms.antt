@@ -1,7 +1,8 @@
 -- core/coordinate_transforms.rs, in its order and with its order of operations. Definitions only.
 use lib.Ieee.{Float}
 use Rattle.arithmetic.specs.Arith.{Arith}
-use Rattle.elementary.specs.Constants.{1·0, PI, FRAC-PI-2}
+use Rattle.arithmetic.specs.Numbers.{1·0}
+use Rattle.elementary.specs.Constants.{PI, FRAC-PI-2}
 use Rattle.elementary.specs.Sine.{sinCos}
 use Rattle.elementary.specs.Arctangent.{atan2}
 use Rattle.coordinates.specs.Constants.{180·0, 360·0, LONGITUDE-OFFSET}

@@ -2,7 +2,7 @@
 use mathlib.Core.Bool.{true, false}
 use lib.Ieee.{Float, eq}
 use Rattle.arithmetic.specs.Arith.{Arith}
-use Rattle.elementary.specs.Constants.{0·0}
+use Rattle.arithmetic.specs.Numbers.{0·0}
 use Rattle.coordinates.specs.declared.coords.Cartesian.{Cartesian}
 
 abbrev pub x : Cartesian → Float

@@ -16,7 +16,7 @@ pub fn triple_product(a: Cartesian, b: Cartesian, c: Cartesian) -> f64
 pub fn length(v: Cartesian) -> f64
     ensures { λ r. ⌜ r ≡ length ieee v ⌝ }
 {
-    elementary::root::sqrt(v.0.x * v.0.x + v.0.y * v.0.y + v.0.z * v.0.z)
+    square_root::root::sqrt(v.0.x * v.0.x + v.0.y * v.0.y + v.0.z * v.0.z)
 }
 
 pub fn subtract(a: Cartesian, b: Cartesian) -> Cartesian

@@ -4,7 +4,7 @@ use mathlib.Core.Bool.{Bool, cond}
 use mathlib.Core.List.{List, [], _∷_, _++_}
 use lib.ListN.{length, getD, take, drop}
 use lib.Ieee.{Float, nan, eq}
-use Rattle.elementary.specs.Constants.{1·0}
+use Rattle.arithmetic.specs.Numbers.{1·0}
 use Rattle.coordinates.specs.CoordinateTransforms.{face}
 use Rattle.coordinates.specs.Vector.{x, y, z, cartesian}
 use Rattle.coordinates.specs.declared.coords.FaceTriangle.{FaceTriangle}

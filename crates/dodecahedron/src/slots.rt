@@ -11,7 +11,7 @@ ghost use mathlib.Core.Path.{_≡_};
 ghost use mathlib.Core.List.{_∷_};
 ghost use Prim.Native.Nat.{_+_, _<_, _≤_};
 ghost use lib.ListN.{length};
-ghost use Rattle.elementary.specs.Constants.{1·0};
+ghost use Rattle.arithmetic.specs.Numbers.{1·0};
 ghost use Rattle.arithmetic.specs.Arith.{ieee};
 ghost use Rattle.set.specs.Sizes.{FACE-SLOTS, FACE-STORE, FACE-WIDTH, SPHERE-SLOTS, SPHERE-STORE, SPHERE-WIDTH};
 ghost use Rattle.dodecahedron.specs.Slots.{filled, put, keep, faceRun, faceIn, sphereRun, sphereIn};

@@ -4,8 +4,9 @@ use mathlib.Core.Bool.{Bool, true, false, _&&_}
 use lib.Ieee.{Float, nan, inf, fin, binary64, add, sub, mul, div, le, eq}
 use Rattle.answer.specs.Number.{isFinite}
 use Rattle.arithmetic.specs.Arith.{ieee}
-use Rattle.elementary.specs.Constants.{0·0, PI, FRAC-PI-2}
-use Rattle.elementary.specs.Signs.{abs, negative, withSign}
+use Rattle.arithmetic.specs.Numbers.{0·0}
+use Rattle.elementary.specs.Constants.{PI, FRAC-PI-2}
+use Rattle.square_root.specs.Signs.{abs, negative, withSign}
 use Rattle.elementary.specs.Arctangent.{core, atanSize, atan, atan2Base, atan2}
 
 pub and-first : (p q : Bool) → p ≡ false → (p && q) ≡ false

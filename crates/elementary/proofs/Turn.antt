@@ -22,7 +22,7 @@ use Rattle.arithmetic.proofs.Remainder.{rem-below, rem-exact}
 use Rattle.arithmetic.proofs.Rounding.{AtMost, neg-round}
 use Rattle.arithmetic.proofs.Units.{of-value, rise}
 use Rattle.elementary.specs.Constants.{TAU, FRAC-2-PI}
-use Rattle.elementary.specs.Signs.{abs, negative}
+use Rattle.square_root.specs.Signs.{abs, negative}
 use Rattle.elementary.specs.Sine.{modulo4, wholeFloat}
 use Rattle.elementary.specs.Whole.{roundSize, roundℤ}
 use Rattle.elementary.proofs.Fraction.{2^52}

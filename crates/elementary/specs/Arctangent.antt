@@ -3,8 +3,9 @@ use mathlib.Core.Bool.{true, false, _&&_}
 use lib.Ieee.{Float, nan, inf, fin, le, eq}
 use Rattle.answer.specs.Number.{isFinite}
 use Rattle.arithmetic.specs.Arith.{Arith}
-use Rattle.elementary.specs.Constants.{0·0, 1·0, 4·0, PI, FRAC-PI-2, coreFirst, coreRest}
-use Rattle.elementary.specs.Signs.{abs, negative, withSign}
+use Rattle.arithmetic.specs.Numbers.{0·0, 1·0, 4·0}
+use Rattle.elementary.specs.Constants.{PI, FRAC-PI-2, coreFirst, coreRest}
+use Rattle.square_root.specs.Signs.{abs, negative, withSign}
 use Rattle.elementary.specs.Sine.{series}
 
 module _ (A : Arith) where

@@ -2,17 +2,8 @@
 use Prim.Native.Nat.{ℕ, zero, suc, _*_}
 use mathlib.Core.Bool.{false}
 use mathlib.Core.List.{List, [], _∷_, map}
-use lib.IntN.{pos}
-use lib.Ieee.{Float, fin, binary64, round, div, ofBits}
-
-abbrev pub 0·0 : Float
-0·0 = fin false 0 (pos 0)
-
-abbrev pub 1·0 : Float
-1·0 = fin false 1 (pos 0)
-
-abbrev pub 4·0 : Float
-4·0 = fin false 1 (pos 2)
+use lib.Ieee.{Float, binary64, round, div, ofBits}
+use Rattle.arithmetic.specs.Numbers.{1·0}
 
 -- 6.283185307179586
 unfoldable pub TAU : Float

@@ -1,6 +1,5 @@
 -- Document 01, "Elementary steps": what the library functions mean. Definitions only.
 pub mod Constants
-pub mod Signs
 pub mod Whole
 pub mod Sine
 pub mod Arctangent

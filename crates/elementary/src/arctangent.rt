@@ -1,10 +1,10 @@
 // Core, atan and atan2 (document 01, "Elementary steps").
-use crate::root::sqrt;
-use crate::signs::abs;
-use crate::signs::negative;
+use square_root::root::sqrt;
+use square_root::signs::abs;
+use square_root::signs::negative;
 ghost use mathlib.Core.Path.{_≡_};
 ghost use Rattle.arithmetic.specs.Arith.{ieee};
-ghost use Rattle.elementary.specs.Signs.{withSign};
+ghost use Rattle.square_root.specs.Signs.{withSign};
 ghost use Rattle.elementary.specs.Sine.{series};
 ghost use Rattle.elementary.specs.Constants.{coreFirst, coreRest};
 ghost use Rattle.elementary.specs.Arctangent.{halved, core, atanSize, atan, atan2Base, atan2};

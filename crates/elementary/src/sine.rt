@@ -62,7 +62,7 @@ pub struct SinCos {
 fn within_turn(x: f64) -> f64
     ensures { λ r. ⌜ r ≡ rem binary64 x TAU ⌝ }
 {
-    if crate::signs::abs(x) < TAU {
+    if square_root::signs::abs(x) < TAU {
         x
     } else {
         x % TAU
@@ -86,7 +86,7 @@ fn reduction(x: f64) -> Reduced
 {
     let y = within_turn(x);
     let q = y * FRAC_2_PI;
-    let k = crate::whole::nearest_size(crate::signs::abs(q));
+    let k = crate::whole::nearest_size(square_root::signs::abs(q));
     let w = k as f64;
     if q < 0.0 {
         Reduced {

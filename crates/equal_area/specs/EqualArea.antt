@@ -2,8 +2,8 @@
 use mathlib.Core.Bool.{Bool, true, false}
 use lib.Ieee.{Float, binary64, ofBits, neg, lt}
 use Rattle.arithmetic.specs.Arith.{Arith}
-use Rattle.elementary.specs.Constants.{0·0, 1·0}
-use Rattle.elementary.specs.Signs.{abs, maxZero}
+use Rattle.arithmetic.specs.Numbers.{0·0, 1·0}
+use Rattle.square_root.specs.Signs.{abs, maxZero}
 use Rattle.elementary.specs.Sine.{sinCos}
 use Rattle.coordinates.specs.Constants.{2·0}
 use Rattle.coordinates.specs.CoordinateTransforms.{faceToBarycentric, barycentricToFace}

@@ -1,6 +1,6 @@
 -- geometry/spherical_polygon.rs: the area of a spherical triangle. Definitions only.
 use Rattle.arithmetic.specs.Arith.{Arith}
-use Rattle.elementary.specs.Constants.{1·0}
+use Rattle.arithmetic.specs.Numbers.{1·0}
 use Rattle.elementary.specs.Arctangent.{atan2}
 use Rattle.coordinates.specs.Constants.{2·0}
 use Rattle.coordinates.specs.CoordinateTransforms.{radians}

@@ -10,7 +10,7 @@ use lib.Dec.{eqb}
 use lib.ListN.{length, getD, drop, replicate}
 use lib.Ieee.{Float, nan, eq, ofBits}
 use borrow.Author.Tests.{eq-eqb, ne-eqb}
-use Rattle.elementary.specs.Constants.{0·0, 1·0}
+use Rattle.arithmetic.specs.Numbers.{0·0, 1·0}
 use Rattle.dodecahedron.specs.Slots.{run, put, filled, keep}
 use Rattle.dodecahedron.proofs.Runs.{length-put}
 use Rattle.histories.specs.Since.{Slots}

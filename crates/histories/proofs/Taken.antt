@@ -11,7 +11,7 @@ use lib.Ieee.{Float}
 use borrow.Author.Tests.{le-leb, lt-leb}
 use Rattle.answer.specs.Given.{Given, answered, refused}
 use Rattle.arithmetic.specs.Arith.{ieee}
-use Rattle.elementary.specs.Constants.{0·0, 1·0}
+use Rattle.arithmetic.specs.Numbers.{0·0, 1·0}
 use Rattle.coordinates.specs.declared.coords.SphericalTriangle.{SphericalTriangle}
 use Rattle.origin.specs.Origins.{ORIGINS, originAt}
 use Rattle.tiling.specs.FaceTriangles.{faceTriangle}

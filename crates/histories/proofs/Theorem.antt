@@ -7,7 +7,7 @@ use native.Mathlib.Omega.{arith}
 use lib.ListN.{length}
 use lib.Ieee.{Float}
 use Rattle.answer.specs.Given.{Given, answered, refused, passed}
-use Rattle.elementary.specs.Constants.{1·0}
+use Rattle.arithmetic.specs.Numbers.{1·0}
 use Rattle.coordinates.specs.declared.coords.SphericalTriangle.{SphericalTriangle}
 use Rattle.set.specs.Sizes.{FACE-WIDTH, SPHERE-WIDTH}
 use Rattle.dodecahedron.specs.Slots.{sphereRun}

@@ -7,7 +7,7 @@ use lib.ListN.{length, getD, replicate}
 use lib.Ieee.{nan}
 use Rattle.answer.specs.Given.{answered, passed}
 use Rattle.arithmetic.specs.Arith.{ieee}
-use Rattle.elementary.specs.Constants.{0·0, 1·0}
+use Rattle.arithmetic.specs.Numbers.{0·0, 1·0}
 use Rattle.coordinates.specs.declared.coords.Face.{Face}
 use Rattle.coordinates.specs.declared.coords.SphericalTriangle.{SphericalTriangle}
 use Rattle.coordinates.specs.declared.lonlat.LonLat.{LonLat}

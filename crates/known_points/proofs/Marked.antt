@@ -3,7 +3,7 @@ use mathlib.Core.Path.{_≡_, refl}
 use lib.Ieee.{binary64, add, sub, rem, neg, ofBits}
 use Rattle.arithmetic.specs.Sqrt.{sqrt}
 use Rattle.arithmetic.proofs.Quick.{quick, in-ieee}
-use Rattle.elementary.specs.Constants.{0·0}
+use Rattle.arithmetic.specs.Numbers.{0·0}
 use Rattle.elementary.specs.Whole.{floor, round}
 use Rattle.coordinates.specs.CoordinateTransforms.{radians, normalizeLongitude}
 use Rattle.origin.specs.Constants.{PI-OVER-5}

@@ -5,7 +5,8 @@ use mathlib.Core.List.{List, [], _∷_, _++_, map}
 use lib.ListN.{getD}
 use lib.Ieee.{Float, nan, binary64, ofBits}
 use Rattle.arithmetic.specs.Arith.{Arith}
-use Rattle.elementary.specs.Constants.{0·0, PI}
+use Rattle.arithmetic.specs.Numbers.{0·0}
+use Rattle.elementary.specs.Constants.{PI}
 use Rattle.coordinates.specs.CoordinateTransforms.{radians}
 use Rattle.origin.specs.Constants.{PI-OVER-5, TWO-PI-OVER-5, INTERHEDRAL-ANGLE}
 use Rattle.origin.specs.Quaternion.{QUATERNIONS}

@@ -1,6 +1,7 @@
-// Reads the oracle's list (oracle/README.md) from standard input, asks crate elementary at each stored argument, and
-// compares the answers bit for bit. It writes a line for each function: how many answers were compared, and how many
-// differ. It shows the first three records of each function that differ, and says so where the list is malformed.
+// Reads the oracle's list (oracle/README.md) from standard input, asks crates square_root and elementary at each stored
+// argument, and compares the answers bit for bit. It writes a line for each function: how many answers were compared, and
+// how many differ. It shows the first three records of each function that differ, and says so where the list is
+// malformed.
 use elementary::sine::sin_cos;
 use replay::outcome::Outcome;
 use replay::outcome::one;
@@ -15,11 +16,11 @@ use replay::tally;
 fn outcome(number: u8, words: &[u8; 96]) -> Outcome {
     let x = argument(words, 0);
     match number {
-        1 => one(elementary::signs::abs(x)),
-        2 => one(elementary::signs::max_zero(x)),
+        1 => one(square_root::signs::abs(x)),
+        2 => one(square_root::signs::max_zero(x)),
         3 => one(elementary::whole::floor(x)),
         4 => one(elementary::whole::round(x)),
-        5 => one(elementary::root::sqrt(x)),
+        5 => one(square_root::root::sqrt(x)),
         6 => one(elementary::sine::sin(x)),
         7 => one(elementary::sine::cos(x)),
         8 => one(elementary::sine::tan(x)),

@@ -9,7 +9,7 @@ use lib.Ieee.{Float}
 use Rattle.answer.specs.Given.{Given, answered, refused, passed, refuseIf, andThen}
 use Rattle.answer.specs.Answer.{numberOf}
 use Rattle.answer.specs.Number.{isFinite, checkNumber}
-use Rattle.elementary.specs.Constants.{4·0}
+use Rattle.arithmetic.specs.Numbers.{4·0}
 use Rattle.coordinates.specs.declared.coords.Face.{Face}
 use Rattle.set.specs.Set.{checkSet}
 use Rattle.set.specs.declared.checks.FaceAnswer.{FaceAnswer}

@@ -8,7 +8,7 @@ use lib.Ieee.{Float}
 use Rattle.answer.specs.Given.{Given, answered, refused, passed, refuseIf, andThen}
 use Rattle.answer.specs.Answer.{numberOf}
 use Rattle.arithmetic.specs.Arith.{Arith}
-use Rattle.elementary.specs.Constants.{0·0}
+use Rattle.arithmetic.specs.Numbers.{0·0}
 use Rattle.crs.specs.Frame.{frameRows}
 use Rattle.set.specs.Sizes.{FRAME}
 use Rattle.set.specs.Set.{checkSet}

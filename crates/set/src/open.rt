@@ -4,7 +4,7 @@ use answer::Check;
 use answer::Refusal;
 ghost use mathlib.Core.Path.{_≡_};
 ghost use lib.ListN.{length, replicate};
-ghost use Rattle.elementary.specs.Constants.{0·0};
+ghost use Rattle.arithmetic.specs.Numbers.{0·0};
 ghost use Rattle.arithmetic.specs.Arith.{ieee};
 ghost use Rattle.origin.specs.Origins.{ORIGINS};
 ghost use Rattle.set.specs.Sizes.{FACE-STORE, SPHERE-STORE};

@@ -19,7 +19,7 @@ use Rattle.arithmetic.specs.Arith.{Arith}
 use Rattle.arithmetic.proofs.Compared.{cut-asks, cut-value}
 use Rattle.arithmetic.proofs.Remainder.{rem-exact}
 use Rattle.arithmetic.proofs.Units.{Units, rise, count}
-use Rattle.elementary.specs.Signs.{abs, negative}
+use Rattle.square_root.specs.Signs.{abs, negative}
 use Rattle.coordinates.specs.declared.base.Radians.{Radians}
 use Rattle.tiling.specs.Index.{asWhole, modulo10, triangleIndex}
 

@@ -4,7 +4,7 @@ use mathlib.Core.Bool.{Bool, true, false}
 use lib.Dec.{eqb, ltb}
 use lib.Ieee.{Float, neg}
 use Rattle.arithmetic.specs.Arith.{Arith}
-use Rattle.elementary.specs.Constants.{1·0}
+use Rattle.arithmetic.specs.Numbers.{1·0}
 use Rattle.elementary.specs.Sine.{cos}
 use Rattle.coordinates.specs.Constants.{2·0}
 use Rattle.coordinates.specs.CoordinateTransforms.{face}

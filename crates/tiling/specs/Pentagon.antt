@@ -6,7 +6,7 @@ use mathlib.Core.List.{List, [], _∷_, reverse}
 use lib.ListN.{getD}
 use lib.Ieee.{Float, binary64, le, ofBits}
 use Rattle.arithmetic.specs.Arith.{Arith}
-use Rattle.elementary.specs.Constants.{0·0}
+use Rattle.arithmetic.specs.Numbers.{0·0}
 use Rattle.elementary.specs.Sine.{sinCos, cos}
 use Rattle.elementary.specs.Arctangent.{atan2}
 use Rattle.coordinates.specs.Constants.{2·0}

@@ -1,11 +1,11 @@
 // The triangle that a point belongs to, and whether it lies beyond the face's edge.
 use coordinates::base::Radians;
 use coordinates::polar::Polar;
-use elementary::signs::abs;
-use elementary::signs::negative;
 use elementary::sine::cos;
 use elementary::whole::floor;
 use elementary::whole::round;
+use square_root::signs::abs;
+use square_root::signs::negative;
 ghost use mathlib.Core.Path.{_≡_};
 ghost use mathlib.Core.Bool.{cond};
 ghost use lib.IntN.{pos, negℤ};

@@ -3,7 +3,7 @@ use mathlib.Core.Path.{_≡_, refl, sym, ap, _∙_}
 use mathlib.Core.Bool.{true, false}
 use lib.Ieee.{Float, binary64, ofBits, div, eq}
 use Rattle.arithmetic.specs.Arith.{ieee}
-use Rattle.elementary.specs.Constants.{0·0}
+use Rattle.arithmetic.specs.Numbers.{0·0}
 use Rattle.coordinates.specs.declared.coords.Cartesian.{Cartesian}
 use Rattle.coordinates.specs.Vector.{x, y, z, cartesian, length, normalize}
 use Rattle.coordinates.proofs.vector.normalize.Statement.{statement}

@@ -6,7 +6,7 @@ use native.Mathlib.Omega.{arith}
 use borrow.Author.Needs.{needs}
 use lib.ListN.{length}
 use lib.Ieee.{ofBits}
-use Rattle.elementary.specs.Constants.{1·0}
+use Rattle.arithmetic.specs.Numbers.{1·0}
 use Rattle.dodecahedron.specs.Slots.{faceRun}
 use Rattle.dodecahedron.proofs.Runs.{put-marked, length-put}
 use Rattle.dodecahedron.proofs.slots.store_face.Statement.{statement}

@@ -6,8 +6,8 @@ use Rattle.answer.specs.Number.{isFinite}
 use Rattle.arithmetic.specs.Arith.{ieee}
 use Rattle.elementary.specs.Arctangent.{atan2Base}
 use Rattle.elementary.specs.Constants.{PI}
-use Rattle.elementary.specs.Signs.{abs}
-use Rattle.elementary.proofs.SignBit.{zero-by-zero}
+use Rattle.square_root.specs.Signs.{abs}
+use Rattle.square_root.proofs.SignBit.{zero-by-zero}
 use Rattle.elementary.proofs.Angles.{and-first, and-then, atan2-nan, atan2-left, atan2-right}
 use Rattle.elementary.proofs.arctangent.atan2.Statement.{statement}
 use Rattle.elementary.proofs.arctangent.atan2.Tie as tie

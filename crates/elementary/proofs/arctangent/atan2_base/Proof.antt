@@ -3,7 +3,8 @@ use mathlib.Core.Path.{_≡_, sym, ap, _∙_}
 use mathlib.Core.Bool.{false, _&&_}
 use mathlib.Core.Logic.{⊎-elim}
 use lib.Ieee.{binary64, sub, eq, ofBits}
-use Rattle.elementary.specs.Constants.{0·0, FRAC-PI-2}
+use Rattle.arithmetic.specs.Numbers.{0·0}
+use Rattle.elementary.specs.Constants.{FRAC-PI-2}
 use Rattle.elementary.proofs.Angles.{and-first, and-then, base-zero, base-low, base-high}
 use Rattle.elementary.proofs.arctangent.atan2_base.Statement.{statement}
 use Rattle.elementary.proofs.arctangent.atan2_base.Tie as tie

@@ -1,5 +1,5 @@
 -- `with_sign` meets its contract. Assumes nothing.
-use Rattle.elementary.specs.Signs.{withSign}
+use Rattle.square_root.specs.Signs.{withSign}
 use Rattle.elementary.proofs.arctangent.with_sign.Statement.{statement}
 use Rattle.elementary.proofs.arctangent.with_sign.Tie as tie
 

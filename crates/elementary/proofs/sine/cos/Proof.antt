@@ -3,7 +3,7 @@ use mathlib.Core.Path.{sym, ap, _∙_}
 use borrow.Author.Tests.{not-true, not-false}
 use Rattle.elementary.specs.declared.sine.SinCos.{SinCos}
 use Rattle.elementary.specs.Sine.{cos}
-use Rattle.elementary.proofs.SignBit.{zero-by-zero}
+use Rattle.square_root.proofs.SignBit.{zero-by-zero}
 use Rattle.elementary.proofs.Quarters.{otherwise-nan}
 use Rattle.elementary.proofs.sine.cos.Statement.{statement}
 use Rattle.elementary.proofs.sine.cos.Tie as tie

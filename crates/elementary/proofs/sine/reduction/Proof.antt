@@ -11,10 +11,10 @@ use lib.Ieee.Positive.{num, den}
 use Rattle.arithmetic.specs.Arith.{ieee}
 use Rattle.arithmetic.proofs.Rounding.{AtMost}
 use Rattle.elementary.specs.Constants.{FRAC-2-PI}
-use Rattle.elementary.specs.Signs.{negative}
+use Rattle.square_root.specs.Signs.{negative}
 use Rattle.elementary.specs.Sine.{modulo4, wholeFloat}
 use Rattle.elementary.specs.Whole.{roundSize, roundℤ}
-use Rattle.elementary.proofs.SignBit.{abs-positive}
+use Rattle.square_root.proofs.SignBit.{abs-positive}
 use Rattle.elementary.proofs.Fraction.{same-size}
 use Rattle.elementary.proofs.Turn.{quartersMost, remainder-below, quarters-most, size-asks, nearest-is, plus-float, minus-float, plus-quarter, minus-quarter}
 use Rattle.elementary.proofs.sine.reduction.Statement.{statement}

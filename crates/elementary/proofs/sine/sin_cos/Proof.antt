@@ -1,7 +1,7 @@
 -- `sin_cos` meets its contract. Assumes nothing.
 use mathlib.Core.Path.{sym, _∙_}
 use borrow.Author.Tests.{not-true, not-false}
-use Rattle.elementary.proofs.SignBit.{zero-by-zero}
+use Rattle.square_root.proofs.SignBit.{zero-by-zero}
 use Rattle.elementary.proofs.Quarters.{otherwise-nan}
 use Rattle.elementary.proofs.sine.sin_cos.Statement.{statement}
 use Rattle.elementary.proofs.sine.sin_cos.Tie as tie

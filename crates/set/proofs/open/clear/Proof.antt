@@ -5,7 +5,7 @@ use native.Mathlib.Omega.{arith}
 use borrow.Author.Needs.{needs}
 use lib.ListN.{length, replicate, length-set, length-replicate}
 use lib.Ieee.{ofBits}
-use Rattle.elementary.specs.Constants.{0·0}
+use Rattle.arithmetic.specs.Numbers.{0·0}
 use Rattle.set.proofs.Overwrite.{over, store-same, all-stored}
 use Rattle.set.proofs.open.clear.Statement.{statement}
 use Rattle.set.proofs.open.clear.Tie as tie

@@ -7,7 +7,7 @@ use lib.ListN.{replicate}
 use lib.Ieee.{Float}
 use Rattle.answer.specs.Answer.{givenCheck}
 use Rattle.arithmetic.specs.Arith.{ieee}
-use Rattle.elementary.specs.Constants.{0·0}
+use Rattle.arithmetic.specs.Numbers.{0·0}
 use Rattle.origin.specs.Origins.{ORIGINS}
 use Rattle.crs.specs.Frame.{frameRows}
 use Rattle.set.proofs.Lengths.{set-passed}

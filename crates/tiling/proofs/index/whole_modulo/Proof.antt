@@ -6,7 +6,7 @@ use native.Mathlib.Nat.{mod-mod}
 use borrow.Author.Tests.{not-true, not-false}
 use lib.Dec.{T}
 use lib.Ieee.{binary64, rem, ofBits}
-use Rattle.elementary.proofs.SignBit.{abs-fits}
+use Rattle.square_root.proofs.SignBit.{abs-fits}
 use Rattle.elementary.proofs.Fraction.{Below, below, cut-below}
 use Rattle.tiling.proofs.Modulo.{modulo-is, not-finite, LastDigit, last-digit}
 use Rattle.tiling.proofs.index.whole_modulo.Statement.{statement}

@@ -1,0 +1,8 @@
+-- Laws behind the proofs of the functions.
+pub mod SignBit
+pub mod Mask
+pub mod Lead
+pub mod Round
+pub mod Carried
+pub mod RootBits
+pub mod Guess

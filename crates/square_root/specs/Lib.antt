@@ -1,0 +1,2 @@
+-- Document 01, "Elementary steps": abs, max(0.0) and signs. Definitions only; the square root's is in crate arithmetic.
+pub mod Signs

@@ -1,0 +1,3 @@
+// The square root, and what document 01 says of signs. Each function is total and has no requires.
+pub mod root;
+pub mod signs;
