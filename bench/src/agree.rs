@@ -1,6 +1,7 @@
 // Before anything is timed: the library's answers on the inputs are the stepped Rust's, bit for bit.
 
 use crate::forms::{Form, Ours, Stepped};
+use a5_faces::Place;
 use a5_stepped::coordinate_systems::Cartesian;
 use a5_stepped::projections::crs::CRS;
 
@@ -17,9 +18,7 @@ fn same(what: &str, ours: &[f64], rust: &[f64]) {
 // the 62 rows is one of the Rust's 62, and those three stand in their places.
 fn frames(ours: &Ours) {
     let mut crs = CRS::new().expect("the Rust has 62 rows");
-    let rows: Vec<[f64; 3]> = ours
-        .set
-        .frame
+    let rows: Vec<[f64; 3]> = ours.set.buffers()[0]
         .chunks(3)
         .map(|r| [r[0], r[1], r[2]])
         .collect();
@@ -56,7 +55,8 @@ pub fn check(degrees: &[[f64; 2]], radians: &[[f64; 2]]) {
             place.origin, theirs.origin,
             "place of {longitude}, {latitude}"
         );
-        same("place", &place.face, &theirs.face);
+        let point = |place: Place| [place.face.x, place.face.y];
+        same("place", &point(place), &point(theirs));
         same("unplace", &ours.unplace(place), &rust.unplace(place));
     }
     for &[theta, phi] in radians {

@@ -6,7 +6,8 @@ mod forms;
 #[path = "../../oracle/common/generator.rs"]
 mod generator;
 
-use forms::{Form, Ours, Place, Plain, Stepped};
+use a5_faces::Place;
+use forms::{Form, Ours, Plain, Stepped};
 use generator::Generator;
 use std::hint::black_box;
 use std::time::Instant;

@@ -5,10 +5,13 @@
 //! they are owed pointers that are aligned and not null, with as many numbers behind them as the length says, and that
 //! nothing lent overlaps or is used elsewhere meanwhile: Rust's references and slices are just that.
 
+// Each is inlined, so that a caller has the library's own call and nothing beside it.
+
 use crate::raw;
 use crate::{Face, LonLat, Place, Refusal, Spherical, Store};
 
 // 0 is an answer. The library is proved to return a number of the table otherwise.
+#[inline]
 fn given<T>(status: u8, answer: T) -> Result<T, Refusal> {
     match status {
         0 => Ok(answer),
@@ -16,6 +19,7 @@ fn given<T>(status: u8, answer: T) -> Result<T, Refusal> {
     }
 }
 
+#[inline]
 fn kind(store: Store) -> u8 {
     match store {
         Store::Face => 0,
@@ -24,6 +28,7 @@ fn kind(store: Store) -> u8 {
 }
 
 /// Writes the frame and fills both stores with 0.0.
+#[inline]
 pub fn open(frame: &mut [f64], face: &mut [f64], sphere: &mut [f64]) -> Result<(), Refusal> {
     let status = unsafe {
         raw::a5_open(
@@ -38,8 +43,8 @@ pub fn open(frame: &mut [f64], face: &mut [f64], sphere: &mut [f64]) -> Result<(
     given(status, ())
 }
 
-// Forward, inverse and unplace: a set, two numbers and an origin, and two numbers as the answer.
-type OnFace = unsafe extern "C" fn(
+// A call on a set: two numbers, then M, which is an origin or where place writes one; and two numbers as the answer.
+type OnSet<M> = unsafe extern "C" fn(
     *const f64,
     usize,
     *mut f64,
@@ -48,15 +53,16 @@ type OnFace = unsafe extern "C" fn(
     usize,
     f64,
     f64,
-    u8,
+    M,
     *mut [f64; 2],
 ) -> u8;
 
-fn on_face(
-    call: OnFace,
+#[inline]
+fn on_set<M>(
+    call: OnSet<M>,
     (frame, face, sphere): (&[f64], &mut [f64], &mut [f64]),
     numbers: [f64; 2],
-    origin: u8,
+    more: M,
 ) -> Result<[f64; 2], Refusal> {
     let mut to = [0.0; 2];
     let status = unsafe {
@@ -69,7 +75,7 @@ fn on_face(
             sphere.len(),
             numbers[0],
             numbers[1],
-            origin,
+            more,
             &mut to,
         )
     };
@@ -77,6 +83,7 @@ fn on_face(
 }
 
 /// The point of a position on the face of an origin.
+#[inline]
 pub fn forward(
     frame: &[f64],
     face: &mut [f64],
@@ -85,11 +92,12 @@ pub fn forward(
     origin: u8,
 ) -> Result<Face, Refusal> {
     let numbers = [position.theta, position.phi];
-    let to = on_face(raw::a5_forward, (frame, face, sphere), numbers, origin);
+    let to = on_set(raw::a5_forward, (frame, face, sphere), numbers, origin);
     to.map(|[x, y]| Face { x, y })
 }
 
 /// The position of a point on the face of an origin.
+#[inline]
 pub fn inverse(
     frame: &[f64],
     face: &mut [f64],
@@ -97,7 +105,7 @@ pub fn inverse(
     place: Place,
 ) -> Result<Spherical, Refusal> {
     let numbers = [place.face.x, place.face.y];
-    let to = on_face(
+    let to = on_set(
         raw::a5_inverse,
         (frame, face, sphere),
         numbers,
@@ -107,32 +115,24 @@ pub fn inverse(
 }
 
 /// The nearest origin of a longitude and latitude, and the point on its face.
+#[inline]
 pub fn place(
     frame: &[f64],
     face: &mut [f64],
     sphere: &mut [f64],
     position: LonLat,
 ) -> Result<Place, Refusal> {
-    let (mut origin, mut to) = (0, [0.0; 2]);
-    let status = unsafe {
-        raw::a5_place(
-            frame.as_ptr(),
-            frame.len(),
-            face.as_mut_ptr(),
-            face.len(),
-            sphere.as_mut_ptr(),
-            sphere.len(),
-            position.longitude,
-            position.latitude,
-            &mut origin,
-            &mut to,
-        )
-    };
-    let face = Face { x: to[0], y: to[1] };
-    given(status, Place { origin, face })
+    let mut origin = 0;
+    let numbers = [position.longitude, position.latitude];
+    let to = on_set(raw::a5_place, (frame, face, sphere), numbers, &mut origin);
+    to.map(|[x, y]| Place {
+        origin,
+        face: Face { x, y },
+    })
 }
 
 /// The longitude and latitude of a point on the face of an origin.
+#[inline]
 pub fn unplace(
     frame: &[f64],
     face: &mut [f64],
@@ -140,7 +140,7 @@ pub fn unplace(
     place: Place,
 ) -> Result<LonLat, Refusal> {
     let numbers = [place.face.x, place.face.y];
-    let to = on_face(
+    let to = on_set(
         raw::a5_unplace,
         (frame, face, sphere),
         numbers,
@@ -153,6 +153,7 @@ pub fn unplace(
 }
 
 /// The coordinates of a filled slot, six or nine; `None` where the slot is empty.
+#[inline]
 pub fn show<'a>(
     face: &'a [f64],
     sphere: &'a [f64],
@@ -181,6 +182,7 @@ pub fn show<'a>(
 }
 
 /// Show's companion: whether the slot is filled.
+#[inline]
 pub fn slot_state(
     face: &[f64],
     sphere: &[f64],
@@ -203,6 +205,7 @@ pub fn slot_state(
 }
 
 /// The number of the origin nearest to a position.
+#[inline]
 pub fn nearest(position: Spherical) -> Result<u8, Refusal> {
     let mut id = 0;
     let status = unsafe { raw::a5_nearest(position.theta, position.phi, &mut id) };
@@ -210,6 +213,7 @@ pub fn nearest(position: Spherical) -> Result<u8, Refusal> {
 }
 
 /// From longitude and latitude to the authalic sphere.
+#[inline]
 pub fn from_lon_lat(position: LonLat) -> Result<Spherical, Refusal> {
     let mut to = [0.0; 2];
     let status = unsafe { raw::a5_from_lon_lat(position.longitude, position.latitude, &mut to) };
@@ -218,6 +222,7 @@ pub fn from_lon_lat(position: LonLat) -> Result<Spherical, Refusal> {
 }
 
 /// From the authalic sphere to longitude and latitude.
+#[inline]
 pub fn to_lon_lat(position: Spherical) -> Result<LonLat, Refusal> {
     let mut to = [0.0; 2];
     let status = unsafe { raw::a5_to_lon_lat(position.theta, position.phi, &mut to) };

@@ -1,5 +1,32 @@
 // The library's functions as they are linked; bindings/a5.h says what each does. A slice is a pointer and how many
-// numbers there are.
+// numbers there are. oracle/compare includes this file: its calls are lent what no safe function would lend.
+
+// The calls on a set take two numbers, and then an origin or, of place, where to write one.
+macro_rules! on_a_set {
+    ($($name:ident($x:ident, $y:ident, $more:ident: $type:ty);)*) => {
+        extern "C" {
+            $(pub fn $name(
+                frame: *const f64,
+                frame_length: usize,
+                face: *mut f64,
+                face_length: usize,
+                sphere: *mut f64,
+                sphere_length: usize,
+                $x: f64,
+                $y: f64,
+                $more: $type,
+                to: *mut [f64; 2],
+            ) -> u8;)*
+        }
+    };
+}
+
+on_a_set! {
+    a5_forward(theta, phi, origin: u8);
+    a5_inverse(x, y, origin: u8);
+    a5_place(longitude, latitude, id: *mut u8);
+    a5_unplace(x, y, origin: u8);
+}
 
 #[link(name = "exports", kind = "static")]
 #[link(name = "m")]
@@ -11,54 +38,6 @@ extern "C" {
         face_length: usize,
         sphere: *mut f64,
         sphere_length: usize,
-    ) -> u8;
-    pub fn a5_forward(
-        frame: *const f64,
-        frame_length: usize,
-        face: *mut f64,
-        face_length: usize,
-        sphere: *mut f64,
-        sphere_length: usize,
-        theta: f64,
-        phi: f64,
-        origin: u8,
-        to: *mut [f64; 2],
-    ) -> u8;
-    pub fn a5_inverse(
-        frame: *const f64,
-        frame_length: usize,
-        face: *mut f64,
-        face_length: usize,
-        sphere: *mut f64,
-        sphere_length: usize,
-        x: f64,
-        y: f64,
-        origin: u8,
-        to: *mut [f64; 2],
-    ) -> u8;
-    pub fn a5_place(
-        frame: *const f64,
-        frame_length: usize,
-        face: *mut f64,
-        face_length: usize,
-        sphere: *mut f64,
-        sphere_length: usize,
-        longitude: f64,
-        latitude: f64,
-        id: *mut u8,
-        to: *mut [f64; 2],
-    ) -> u8;
-    pub fn a5_unplace(
-        frame: *const f64,
-        frame_length: usize,
-        face: *mut f64,
-        face_length: usize,
-        sphere: *mut f64,
-        sphere_length: usize,
-        x: f64,
-        y: f64,
-        origin: u8,
-        to: *mut [f64; 2],
     ) -> u8;
     pub fn a5_show(
         face: *const f64,

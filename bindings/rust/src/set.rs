@@ -26,11 +26,13 @@ impl Set {
     }
 
     /// Writes the frame again and empties every slot.
+    #[inline]
     pub fn open(&mut self) -> Result<(), Refusal> {
         calls::open(&mut self.frame, &mut self.face, &mut self.sphere)
     }
 
     /// The point of a position on the face of an origin.
+    #[inline]
     pub fn forward(&mut self, position: Spherical, origin: u8) -> Result<Face, Refusal> {
         calls::forward(
             &self.frame,
@@ -42,31 +44,37 @@ impl Set {
     }
 
     /// The position of a point on the face of an origin.
+    #[inline]
     pub fn inverse(&mut self, place: Place) -> Result<Spherical, Refusal> {
         calls::inverse(&self.frame, &mut self.face, &mut self.sphere, place)
     }
 
     /// The nearest origin of a longitude and latitude, and the point on its face.
+    #[inline]
     pub fn place(&mut self, position: LonLat) -> Result<Place, Refusal> {
         calls::place(&self.frame, &mut self.face, &mut self.sphere, position)
     }
 
     /// The longitude and latitude of a point on the face of an origin.
+    #[inline]
     pub fn unplace(&mut self, place: Place) -> Result<LonLat, Refusal> {
         calls::unplace(&self.frame, &mut self.face, &mut self.sphere, place)
     }
 
     /// The coordinates of a filled slot, six or nine; `None` where the slot is empty.
+    #[inline]
     pub fn show(&self, store: Store, slot: usize) -> Result<Option<&[f64]>, Refusal> {
         calls::show(&self.face, &self.sphere, store, slot)
     }
 
     /// Show's companion: whether the slot is filled.
+    #[inline]
     pub fn slot_state(&self, store: Store, slot: usize) -> Result<bool, Refusal> {
         calls::slot_state(&self.face, &self.sphere, store, slot)
     }
 
     /// The frame, the face store and the sphere store, to read.
+    #[inline]
     pub fn buffers(&self) -> [&[f64]; 3] {
         [&self.frame, &self.face, &self.sphere]
     }

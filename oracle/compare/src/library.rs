@@ -1,10 +1,11 @@
 // The proved library's C functions, on buffers with numbers behind them that no call may touch.
 
-use crate::calls::{Call, Forward, Inverse, Place, Unplace};
+use crate::calls::{Call, Forward, Inverse, Place};
 use crate::common::fields::{of_whole, whole};
 use crate::common::refusals::RIGHT;
 use crate::counts::{FORWARD, FROM_LON_LAT, NEAREST, OPEN, SHOW, SLOT_STATE, TO_LON_LAT};
 use crate::outcome::{show, Outcome, BEFORE};
+use crate::raw;
 use crate::set::Set;
 use crate::spoil::Spoil;
 
@@ -12,58 +13,14 @@ use crate::spoil::Spoil;
 pub const BEHIND: usize = 5;
 const BEHIND_IS: f64 = 3.25;
 
-// A slice is a pointer and how many numbers there are. The calls on a set differ in what stands before the answer.
-macro_rules! on_a_set {
-    ($($name:ident: $more:ty),*) => {
-        extern "C" {
-            $(fn $name(
-                frame: *const f64,
-                frame_length: usize,
-                face: *mut f64,
-                face_length: usize,
-                sphere: *mut f64,
-                sphere_length: usize,
-                x: f64,
-                y: f64,
-                more: $more,
-                to: *mut f64,
-            ) -> u8;)*
-        }
-    };
-}
+// What a byte that is lent for an answer holds before the call. No call answers it.
+const BYTE_BEFORE: u8 = 0xa5;
 
-on_a_set!(a5_forward: u8, a5_inverse: u8, a5_unplace: u8, a5_place: *mut u8);
-
-extern "C" {
-    fn a5_open(
-        frame: *mut f64,
-        a: usize,
-        face: *mut f64,
-        b: usize,
-        sphere: *mut f64,
-        c: usize,
-    ) -> u8;
-    fn a5_nearest(theta: f64, phi: f64, id: *mut u8) -> u8;
-    fn a5_from_lon_lat(longitude: f64, latitude: f64, to: *mut f64) -> u8;
-    fn a5_to_lon_lat(theta: f64, phi: f64, to: *mut f64) -> u8;
-    fn a5_show(
-        face: *const f64,
-        b: usize,
-        sphere: *const f64,
-        c: usize,
-        kind: u8,
-        slot: usize,
-        to: *mut usize,
-    ) -> u8;
-    fn a5_slot_state(
-        face: *const f64,
-        b: usize,
-        sphere: *const f64,
-        c: usize,
-        kind: u8,
-        slot: usize,
-        to: *mut u8,
-    ) -> u8;
+fn of_byte(byte: u8) -> f64 {
+    match byte {
+        BYTE_BEFORE => BEFORE,
+        n => whole(n as usize),
+    }
 }
 
 // Frame, face store, sphere store.
@@ -122,9 +79,11 @@ impl Library {
     fn ended(
         &mut self,
         call: usize,
-        mut outcome: Outcome,
+        status: u8,
+        numbers: Vec<f64>,
         buffers: Option<&mut Buffers>,
     ) -> Outcome {
+        let mut outcome = Outcome { status, numbers };
         if let Some(spoil) = self.spoil {
             if spoil.done(call, &mut outcome, buffers) {
                 self.spoil = None;
@@ -136,9 +95,8 @@ impl Library {
     pub fn open(&mut self, buffers: &mut Buffers, lent: [usize; 3]) -> Outcome {
         let [frame, face, sphere] = &mut buffers.numbers;
         let (frame, face, sphere) = (frame.as_mut_ptr(), face.as_mut_ptr(), sphere.as_mut_ptr());
-        let status = unsafe { a5_open(frame, lent[0], face, lent[1], sphere, lent[2]) };
-        let numbers = vec![];
-        self.ended(OPEN, Outcome { status, numbers }, Some(buffers))
+        let status = unsafe { raw::a5_open(frame, lent[0], face, lent[1], sphere, lent[2]) };
+        self.ended(OPEN, status, vec![], Some(buffers))
     }
 
     pub fn call(
@@ -150,61 +108,42 @@ impl Library {
     ) -> Outcome {
         let [frame, face, sphere] = &mut buffers.numbers;
         let (frame, face, sphere) = (frame.as_ptr(), face.as_mut_ptr(), sphere.as_mut_ptr());
-        let [a, b, c] = lent;
+        let ([a, b, c], [p, q]) = (lent, [x[0], x[1]]);
         let mut to = [BEFORE; 2];
-        let at = to.as_mut_ptr();
-        if call == Place {
-            let mut id = 0xa5;
-            let status = unsafe { a5_place(frame, a, face, b, sphere, c, x[0], x[1], &mut id, at) };
-            let id = match id {
-                0xa5 => BEFORE,
-                id => whole(id as usize),
+        let (status, numbers) = if call == Place {
+            let mut id = BYTE_BEFORE;
+            let place = raw::a5_place;
+            let status = unsafe { place(frame, a, face, b, sphere, c, p, q, &mut id, &mut to) };
+            (status, vec![of_byte(id), to[0], to[1]])
+        } else {
+            let function = match call {
+                Forward => raw::a5_forward,
+                Inverse => raw::a5_inverse,
+                _ => raw::a5_unplace,
             };
-            let numbers = vec![id, to[0], to[1]];
-            return self.ended(
-                FORWARD + call as usize,
-                Outcome { status, numbers },
-                Some(buffers),
-            );
-        }
-        let function = match call {
-            Forward => a5_forward,
-            Inverse => a5_inverse,
-            Unplace => a5_unplace,
-            Place => unreachable!(),
+            let origin = of_whole(x[2]) as u8;
+            let status = unsafe { function(frame, a, face, b, sphere, c, p, q, origin, &mut to) };
+            (status, to.to_vec())
         };
-        let origin = of_whole(x[2]) as u8;
-        let status = unsafe { function(frame, a, face, b, sphere, c, x[0], x[1], origin, at) };
-        let numbers = to.to_vec();
-        self.ended(
-            FORWARD + call as usize,
-            Outcome { status, numbers },
-            Some(buffers),
-        )
+        self.ended(FORWARD + call as usize, status, numbers, Some(buffers))
     }
 
     pub fn nearest(&mut self, x: [f64; 2]) -> Outcome {
-        let mut id = 0xa5;
-        let status = unsafe { a5_nearest(x[0], x[1], &mut id) };
-        let numbers = match id {
-            0xa5 => vec![BEFORE],
-            id => vec![whole(id as usize)],
-        };
-        self.ended(NEAREST, Outcome { status, numbers }, None)
+        let mut id = BYTE_BEFORE;
+        let status = unsafe { raw::a5_nearest(x[0], x[1], &mut id) };
+        self.ended(NEAREST, status, vec![of_byte(id)], None)
     }
 
     pub fn from_lon_lat(&mut self, x: [f64; 2]) -> Outcome {
         let mut to = [BEFORE; 2];
-        let status = unsafe { a5_from_lon_lat(x[0], x[1], to.as_mut_ptr()) };
-        let numbers = to.to_vec();
-        self.ended(FROM_LON_LAT, Outcome { status, numbers }, None)
+        let status = unsafe { raw::a5_from_lon_lat(x[0], x[1], &mut to) };
+        self.ended(FROM_LON_LAT, status, to.to_vec(), None)
     }
 
     pub fn to_lon_lat(&mut self, x: [f64; 2]) -> Outcome {
         let mut to = [BEFORE; 2];
-        let status = unsafe { a5_to_lon_lat(x[0], x[1], to.as_mut_ptr()) };
-        let numbers = to.to_vec();
-        self.ended(TO_LON_LAT, Outcome { status, numbers }, None)
+        let status = unsafe { raw::a5_to_lon_lat(x[0], x[1], &mut to) };
+        self.ended(TO_LON_LAT, status, to.to_vec(), None)
     }
 
     // The offset and the length of a part, as whole numbers.
@@ -216,21 +155,10 @@ impl Library {
         lent: [usize; 3],
     ) -> Outcome {
         let [_, face, sphere] = &buffers.numbers;
+        let (face, sphere) = (face.as_ptr(), sphere.as_ptr());
         let mut part = [of_whole(BEFORE); 2];
-        let to = part.as_mut_ptr();
-        let status = unsafe {
-            a5_show(
-                face.as_ptr(),
-                lent[1],
-                sphere.as_ptr(),
-                lent[2],
-                kind,
-                slot,
-                to,
-            )
-        };
-        let numbers = part.map(whole).to_vec();
-        self.ended(SHOW, Outcome { status, numbers }, Some(buffers))
+        let status = unsafe { raw::a5_show(face, lent[1], sphere, lent[2], kind, slot, &mut part) };
+        self.ended(SHOW, status, part.map(whole).to_vec(), Some(buffers))
     }
 
     // 1 is filled, 0 is empty.
@@ -242,14 +170,10 @@ impl Library {
         lent: [usize; 3],
     ) -> Outcome {
         let [_, face, sphere] = &buffers.numbers;
-        let mut filled = 0xa5;
         let (face, sphere) = (face.as_ptr(), sphere.as_ptr());
+        let mut filled = BYTE_BEFORE;
         let status =
-            unsafe { a5_slot_state(face, lent[1], sphere, lent[2], kind, slot, &mut filled) };
-        let numbers = match filled {
-            0xa5 => vec![BEFORE],
-            state => vec![whole(state as usize)],
-        };
-        self.ended(SLOT_STATE, Outcome { status, numbers }, Some(buffers))
+            unsafe { raw::a5_slot_state(face, lent[1], sphere, lent[2], kind, slot, &mut filled) };
+        self.ended(SLOT_STATE, status, vec![of_byte(filled)], Some(buffers))
     }
 }

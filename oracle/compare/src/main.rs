@@ -25,6 +25,8 @@ mod library;
 mod nearest;
 mod outcome;
 mod plain;
+#[path = "../../../bindings/rust/src/raw.rs"]
+mod raw;
 #[path = "../../calls/src/refused.rs"]
 mod refused;
 mod row;
