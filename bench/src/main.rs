@@ -37,11 +37,13 @@ fn points() -> Vec<[f64; 2]> {
     (0..POINTS).map(point).collect()
 }
 
-// Nanoseconds for each of so many calls.
-fn time(calls: usize, run: impl FnOnce()) -> f64 {
+// Nanoseconds for each call, at one point after another.
+fn time<P: Copy, A>(points: &[P], mut call: impl FnMut(P) -> A) -> f64 {
     let start = Instant::now();
-    run();
-    start.elapsed().as_nanos() as f64 / calls as f64
+    for p in black_box(points) {
+        black_box(call(*p));
+    }
+    start.elapsed().as_nanos() as f64 / points.len() as f64
 }
 
 // The same points in each call's own terms.
@@ -53,38 +55,17 @@ struct Points {
 
 // One run of each call at the points from a number on.
 fn run(form: &mut impl Form, points: &Points, at: usize) -> [f64; CALLS.len()] {
-    let (degrees, radians) = (
-        &points.degrees[at..at + A_RUN],
-        &points.radians[at..at + A_RUN],
-    );
+    let degrees = &points.degrees[at..at + A_RUN];
+    let radians = &points.radians[at..at + A_RUN];
     let places = &points.places[at..at + A_RUN];
-    let open = time(1, || form.open());
-    let nearest = time(A_RUN, || {
-        for p in black_box(radians) {
-            black_box(form.nearest(p[0], p[1]));
-        }
-    });
-    let from_lon_lat = time(A_RUN, || {
-        for p in black_box(degrees) {
-            black_box(form.from_lon_lat(p[0], p[1]));
-        }
-    });
-    let to_lon_lat = time(A_RUN, || {
-        for p in black_box(radians) {
-            black_box(form.to_lon_lat(p[0], p[1]));
-        }
-    });
-    let place = time(A_RUN, || {
-        for p in black_box(degrees) {
-            black_box(form.place(p[0], p[1]));
-        }
-    });
-    let unplace = time(A_RUN, || {
-        for p in black_box(places) {
-            black_box(form.unplace(*p));
-        }
-    });
-    [open, nearest, from_lon_lat, to_lon_lat, place, unplace]
+    [
+        time(&[()], |()| form.open()),
+        time(radians, |p| form.nearest(p[0], p[1])),
+        time(degrees, |p| form.from_lon_lat(p[0], p[1])),
+        time(radians, |p| form.to_lon_lat(p[0], p[1])),
+        time(degrees, |p| form.place(p[0], p[1])),
+        time(places, |p| form.unplace(p)),
+    ]
 }
 
 fn median(mut times: Vec<f64>) -> f64 {

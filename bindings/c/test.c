@@ -39,59 +39,22 @@ static const struct outcome UNTOUCHED = {A5_ANSWERED, 77, {-1234.5, 5432.1}};
 
 typedef struct outcome call(struct set *s, double first, double second, uint8_t origin);
 
-static struct outcome opening(struct set *s, double first, double second, uint8_t origin) {
-    struct outcome o = UNTOUCHED;
-    (void)first, (void)second, (void)origin;
-    o.status = a5_open(LENT(s));
-    return o;
-}
-
-static struct outcome forward(struct set *s, double theta, double phi, uint8_t origin) {
-    struct outcome o = UNTOUCHED;
-    o.status = a5_forward(LENT(s), theta, phi, origin, o.to);
-    return o;
-}
-
-static struct outcome inverse(struct set *s, double x, double y, uint8_t origin) {
-    struct outcome o = UNTOUCHED;
-    o.status = a5_inverse(LENT(s), x, y, origin, o.to);
-    return o;
-}
-
-static struct outcome place(struct set *s, double longitude, double latitude, uint8_t origin) {
-    struct outcome o = UNTOUCHED;
-    (void)origin;
-    o.status = a5_place(LENT(s), longitude, latitude, &o.id, o.to);
-    return o;
-}
-
-static struct outcome unplace(struct set *s, double x, double y, uint8_t origin) {
-    struct outcome o = UNTOUCHED;
-    o.status = a5_unplace(LENT(s), x, y, origin, o.to);
-    return o;
-}
-
-/* The calls without a set. */
-static struct outcome nearest(struct set *s, double theta, double phi, uint8_t origin) {
-    struct outcome o = UNTOUCHED;
-    (void)s, (void)origin;
-    o.status = a5_nearest(theta, phi, &o.id);
-    return o;
-}
-
-static struct outcome from_lon_lat(struct set *s, double longitude, double latitude, uint8_t origin) {
-    struct outcome o = UNTOUCHED;
-    (void)s, (void)origin;
-    o.status = a5_from_lon_lat(longitude, latitude, o.to);
-    return o;
-}
-
-static struct outcome to_lon_lat(struct set *s, double theta, double phi, uint8_t origin) {
-    struct outcome o = UNTOUCHED;
-    (void)s, (void)origin;
-    o.status = a5_to_lon_lat(theta, phi, o.to);
-    return o;
-}
+/* A call in this form: the library's function with what it takes of s, first, second, origin and the outcome o. */
+#define FORM(name, status_of)                                                                                          \
+    static struct outcome name(struct set *s, double first, double second, uint8_t origin) {                           \
+        struct outcome o = UNTOUCHED;                                                                                  \
+        (void)s, (void)first, (void)second, (void)origin;                                                              \
+        o.status = status_of;                                                                                          \
+        return o;                                                                                                      \
+    }
+FORM(opening, a5_open(LENT(s)))
+FORM(forward, a5_forward(LENT(s), first, second, origin, o.to))
+FORM(inverse, a5_inverse(LENT(s), first, second, origin, o.to))
+FORM(place, a5_place(LENT(s), first, second, &o.id, o.to))
+FORM(unplace, a5_unplace(LENT(s), first, second, origin, o.to))
+FORM(nearest, a5_nearest(first, second, &o.id))
+FORM(from_lon_lat, a5_from_lon_lat(first, second, o.to))
+FORM(to_lon_lat, a5_to_lon_lat(first, second, o.to))
 
 /* Every call that takes two numbers, with their limits. The first four take a set, and three of these an origin. */
 static const struct {

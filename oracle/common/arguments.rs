@@ -1,9 +1,14 @@
 // Ways of making arguments, which the oracles on the given Rust share.
 
 use super::generator::Generator;
+use super::refusals::RIGHT;
 use super::values::{both_signs, moved};
+use std::f64::consts::{FRAC_PI_2, PI};
 
 pub const SMALLEST: f64 = f64::from_bits(1);
+
+// What is not finite, and the ends of what is.
+pub const BROKEN: [f64; 5] = [f64::NAN, f64::INFINITY, -f64::INFINITY, f64::MAX, SMALLEST];
 
 // Zeros, the smallest and the largest numbers, infinities and NaN.
 pub fn few() -> Vec<f64> {
@@ -20,6 +25,24 @@ pub fn pairs(first: &[f64], second: &[f64]) -> Vec<[f64; 2]> {
         .iter()
         .flat_map(|x| second.iter().map(|y| [*x, *y]))
         .collect()
+}
+
+// Theta and phi: the limits and their neighbours, what is broken, zeros and parts of a turn, each with each.
+pub fn spherical_ends() -> Vec<[f64; 2]> {
+    let ends = [&limits(8.0)[..], &BROKEN, &[0.0, -0.0, FRAC_PI_2, -PI, PI]].concat();
+    pairs(&ends, &ends)
+}
+
+// Each buffer empty, one short, right and one long, with each.
+pub fn all_lengths() -> Vec<[usize; 3]> {
+    let [frames, faces, spheres] = RIGHT.map(|size| [0, size - 1, size, size + 1]);
+    let mut list = Vec::new();
+    for frame in frames {
+        for face in faces {
+            list.extend(spheres.map(|sphere| [frame, face, sphere]));
+        }
+    }
+    list
 }
 
 // Copies of x with each number in turn replaced by one that is special.

@@ -13,6 +13,10 @@ pub fn of_whole(x: f64) -> usize {
     x.to_bits() as usize
 }
 
+pub fn bits(x: &[f64]) -> Vec<u64> {
+    x.iter().map(|x| x.to_bits()).collect()
+}
+
 pub fn face(x: &[f64]) -> Face {
     Face::new(x[0], x[1])
 }

@@ -69,9 +69,18 @@ impl List {
         }
     }
 
-    pub fn write(&self) {
+    fn write(&self) {
         std::io::stdout()
             .write_all(&self.bytes)
             .expect("standard output takes the list");
     }
+}
+
+// An oracle's program: writes the list to standard output, or with the word `test` runs the oracle's own tests.
+pub fn run(test: fn(), answers: fn() -> List) {
+    if std::env::args().nth(1).as_deref() == Some("test") {
+        test();
+        return;
+    }
+    answers().write();
 }

@@ -8,6 +8,11 @@ pub const FACE_STORE: usize = 210;
 pub const SPHERE_STORE: usize = 2400;
 pub const RIGHT: [usize; 3] = [FRAME, FACE_STORE, SPHERE_STORE];
 
+// "Ranges, ends included: longitude ±360, latitude ±90, theta and phi ±8, face x and y ±4."
+pub const LON_LAT_LIMITS: [f64; 2] = [360.0, 90.0];
+pub const SPHERICAL_LIMITS: [f64; 2] = [8.0, 8.0];
+pub const FACE_LIMITS: [f64; 2] = [4.0, 4.0];
+
 // "1: frame isn't 186 long. 2: face store isn't 210 long. 3: sphere store isn't 2,400 long." "Tried in table order."
 pub fn lengths(given: [usize; 3]) -> Result<(), u8> {
     match (0..3).find(|i| given[*i] != RIGHT[*i]) {
@@ -16,8 +21,16 @@ pub fn lengths(given: [usize; 3]) -> Result<(), u8> {
     }
 }
 
+// "4: origin id above 11."
+pub fn origin(id: usize) -> Result<u8, u8> {
+    match id {
+        0..=11 => Ok(id as u8),
+        _ => Err(4),
+    }
+}
+
 // "5: a number is infinite or NaN. 6: a number is outside its range." "Each number is tried for 5 and then 6 before the
-// next one." "Ranges, ends included."
+// next one."
 pub fn check(numbers: [f64; 2], limits: [f64; 2]) -> Result<(), u8> {
     for (x, limit) in numbers.into_iter().zip(limits) {
         if !x.is_finite() {

@@ -2,9 +2,12 @@
 // in it. The refusals and what stands in the stores afterwards are document 01's, under its words.
 
 use crate::common::fields::{
-    lon_lat, of_spherical, of_spherical_triangle, of_triangle, of_whole, spherical, whole,
+    lon_lat, of_lon_lat, of_spherical, of_spherical_triangle, of_triangle, of_whole, spherical,
+    whole,
 };
-use crate::common::refusals::{check, finite, lengths};
+use crate::common::refusals::{
+    check, finite, lengths, origin, FACE_LIMITS, LON_LAT_LIMITS, SPHERICAL_LIMITS,
+};
 use crate::set::{empty_projection, Set};
 use a5::coordinate_systems::{Face, Spherical};
 use a5::core::coordinate_transforms::{from_lon_lat, to_lon_lat};
@@ -31,30 +34,22 @@ fn pair(x: &[f64]) -> [f64; 2] {
     [x[0], x[1]]
 }
 
-// "4: origin id above 11."
-fn origin(x: f64) -> Result<u8, u8> {
-    match of_whole(x) {
-        id @ 0..=11 => Ok(id as u8),
-        _ => Err(4),
-    }
-}
-
 // "Those that apply are tried in table order, but each number is tried for 5 and then 6 before the next one: longitude,
 // latitude; theta, phi; x, y." "Place is from_lon_lat, find_nearest_origin, forward; unplace is inverse, to_lon_lat."
 fn question(call: Call, x: &[f64]) -> Result<Question, u8> {
     match call {
         Forward => {
-            let id = origin(x[2])?;
-            check(pair(x), [8.0, 8.0])?;
+            let id = origin(of_whole(x[2]))?;
+            check(pair(x), SPHERICAL_LIMITS)?;
             Ok(Question::Forward(spherical(pair(x)), id))
         }
         Inverse | Unplace => {
-            let id = origin(x[2])?;
-            check(pair(x), [4.0, 4.0])?;
+            let id = origin(of_whole(x[2]))?;
+            check(pair(x), FACE_LIMITS)?;
             Ok(Question::Inverse(Face::new(x[0], x[1]), id))
         }
         Place => {
-            check(pair(x), [360.0, 90.0])?;
+            check(pair(x), LON_LAT_LIMITS)?;
             let position = from_lon_lat(lon_lat(pair(x)));
             let id = find_nearest_origin(position).id;
             Ok(Question::Forward(position, id))
@@ -77,8 +72,7 @@ fn ask(rust: &mut DodecahedronProjection, question: &Question) -> Result<[f64; 2
 fn answer(call: Call, question: &Question, worked: [f64; 2]) -> Result<Vec<f64>, u8> {
     let mut answer = worked;
     if call == Unplace {
-        let back = to_lon_lat(spherical(worked));
-        answer = [back.longitude(), back.latitude()];
+        answer = of_lon_lat(to_lon_lat(spherical(worked)));
     }
     finite(answer)?;
     match (call, question) {
@@ -119,13 +113,13 @@ fn keep(set: &mut Set, rust: &mut DodecahedronProjection, question: &Question) {
     };
     for slot in faces {
         if set.face_slot(slot).is_none() {
-            let t = rust.oracle_face_triangle(slot % 10, slot >= 10, slot >= 20);
-            set.fill_face(slot, &of_triangle(t));
+            let t = rust.oracle_face_triangle(slot);
+            set.put_face(slot, 1.0, &of_triangle(t));
         }
     }
     if set.sphere_slot(sphere).is_none() {
         let t = rust.oracle_spherical_triangles()[sphere].expect("the call took it");
-        set.fill_sphere(sphere, &of_spherical_triangle(t));
+        set.put_sphere(sphere, 1.0, &of_spherical_triangle(t));
     }
 }
 

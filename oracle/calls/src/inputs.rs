@@ -2,7 +2,7 @@
 
 use crate::calls::{Call, Forward, Inverse, Place, Unplace};
 use crate::common::arguments::{pairs, subnormal, within};
-use crate::common::fields::{cartesian, of_spherical, of_triangle, spherical, whole};
+use crate::common::fields::{cartesian, of_lon_lat, of_spherical, of_triangle, spherical, whole};
 use crate::common::generator::Generator;
 use crate::common::places::{around, borders};
 use crate::common::values::{both_signs, moved, near};
@@ -55,8 +55,7 @@ pub fn position_of(p: [f64; 2], id: usize) -> [f64; 2] {
 }
 
 pub fn lon_lat_of(p: [f64; 2]) -> [f64; 2] {
-    let place = to_lon_lat(spherical(p));
-    [place.longitude(), place.latitude()]
+    of_lon_lat(to_lon_lat(spherical(p)))
 }
 
 // Every origin and index, reflected and not: forward, inverse and unplace; place where the point is on the face.
@@ -158,7 +157,7 @@ fn corners() -> Vec<[f64; 2]> {
     let mut rust = empty_projection();
     let mut list: Vec<[f64; 2]> = Vec::new();
     for slot in 0..30 {
-        let t = of_triangle(rust.oracle_face_triangle(slot % 10, slot >= 10, slot >= 20));
+        let t = of_triangle(rust.oracle_face_triangle(slot));
         for p in t.chunks(2) {
             let is_near = |q: &[f64; 2]| (q[0] - p[0]).abs() + (q[1] - p[1]).abs() < 1e-9;
             if !list.iter().any(is_near) {

@@ -12,7 +12,7 @@ mod selftest;
 mod set;
 
 use common::generator::Generator;
-use common::list::List;
+use common::list::{self, List};
 use common::refusals::RIGHT;
 use script::Script;
 
@@ -41,5 +41,5 @@ fn answers() -> List {
 }
 
 fn main() {
-    common::run(selftest::run, answers);
+    list::run(selftest::run, answers);
 }

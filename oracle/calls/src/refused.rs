@@ -1,9 +1,9 @@
 // Arguments that are refused, and the ends of the ranges, which are not; lengths that are wrong.
 
 use crate::calls::{Call, Forward, Inverse, Place, Unplace};
-use crate::common::arguments::pairs;
+use crate::common::arguments::{all_lengths, pairs};
 use crate::common::fields::whole;
-use crate::common::refusals::{FACE_STORE, FRAME, RIGHT, SPHERE_STORE};
+use crate::common::refusals::{FACE_LIMITS, LON_LAT_LIMITS, RIGHT, SPHERICAL_LIMITS};
 use crate::common::values::moved;
 use crate::inputs::Asked;
 use crate::script::Script;
@@ -11,9 +11,9 @@ use crate::script::Script;
 // A call's first two numbers with the limits of their ranges.
 fn limits(call: Call) -> [f64; 2] {
     match call {
-        Forward => [8.0, 8.0],
-        Place => [360.0, 90.0],
-        Inverse | Unplace => [4.0, 4.0],
+        Forward => SPHERICAL_LIMITS,
+        Place => LON_LAT_LIMITS,
+        Inverse | Unplace => FACE_LIMITS,
     }
 }
 
@@ -57,25 +57,18 @@ fn try_lengths(script: &mut Script, lent: [usize; 3], turn: usize) {
     script.call_lent(call, &x, lent);
 }
 
-// Each buffer empty, one short, right and one long, with each; each call where one is wrong alone. Among the arguments are
-// also some that are refused.
+// All lengths; each call where one is wrong alone. Among the arguments are also some that are refused.
 pub fn lengths(script: &mut Script) {
-    let of = |size: usize| [0, size - 1, size, size + 1];
     let mut turn = 0;
-    for frame in of(FRAME) {
-        for face in of(FACE_STORE) {
-            for sphere in of(SPHERE_STORE) {
-                let lent = [frame, face, sphere];
-                let calls = match (0..3).filter(|i| lent[*i] != RIGHT[*i]).count() {
-                    0 => 0,
-                    1 => 4,
-                    _ => 1,
-                };
-                for _ in 0..calls {
-                    try_lengths(script, lent, turn);
-                    turn += 1;
-                }
-            }
+    for lent in all_lengths() {
+        let calls = match (0..3).filter(|i| lent[*i] != RIGHT[*i]).count() {
+            0 => 0,
+            1 => 4,
+            _ => 1,
+        };
+        for _ in 0..calls {
+            try_lengths(script, lent, turn);
+            turn += 1;
         }
     }
     for lent in [[185, 210, 2400], [186, 0, 2400], [186, 210, 2401]] {

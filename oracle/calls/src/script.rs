@@ -3,7 +3,7 @@
 // number more than a set has: what lies behind is looked at too.
 
 use crate::calls::{self, Call};
-use crate::common::fields::whole;
+use crate::common::fields::{bits, whole};
 use crate::common::list::List;
 use crate::common::refusals::{lengths, FACE_STORE, FRAME, RIGHT, SPHERE_STORE};
 use crate::set::{new_projection, Set, FACE_SLOTS, FACE_WIDTH, SPHERE_SLOTS, SPHERE_WIDTH};
@@ -31,10 +31,6 @@ pub struct Script {
 
 fn number(call: Call) -> u8 {
     call as u8 + 1
-}
-
-fn bits(x: &[f64]) -> Vec<u64> {
-    x.iter().map(|x| x.to_bits()).collect()
 }
 
 impl Script {
@@ -91,24 +87,22 @@ impl Script {
     }
 
     pub fn put_row(&mut self, row: usize, numbers: [f64; 3]) {
-        self.set.frame[3 * row..3 * row + 3].copy_from_slice(&numbers);
+        self.set.put_row(row, numbers);
         self.threes(PUT, 3 * row, &numbers);
         self.kept = None;
     }
 
     pub fn put_face(&mut self, slot: usize, mark: f64, coordinates: &[f64]) {
+        self.set.put_face(slot, mark, coordinates);
         let numbers = [&[mark], coordinates].concat();
-        let at = slot * FACE_WIDTH;
-        self.set.face[at..at + FACE_WIDTH].copy_from_slice(&numbers);
-        self.threes(PUT, FACE_AT + at, &numbers);
+        self.threes(PUT, FACE_AT + slot * FACE_WIDTH, &numbers);
         self.kept = None;
     }
 
     pub fn put_sphere(&mut self, slot: usize, mark: f64, coordinates: &[f64]) {
+        self.set.put_sphere(slot, mark, coordinates);
         let numbers = [&[mark], coordinates].concat();
-        let at = slot * SPHERE_WIDTH;
-        self.set.sphere[at..at + SPHERE_WIDTH].copy_from_slice(&numbers);
-        self.threes(PUT, SPHERE_AT + at, &numbers);
+        self.threes(PUT, SPHERE_AT + slot * SPHERE_WIDTH, &numbers);
         self.kept = None;
     }
 

@@ -37,8 +37,8 @@ pub fn filled(store: &[f64], width: usize, slot: usize) -> Option<&[f64]> {
     (numbers[0] == 1.0).then_some(&numbers[1..])
 }
 
-fn fill(store: &mut [f64], width: usize, slot: usize, coordinates: &[f64]) {
-    store[slot * width] = 1.0;
+fn put(store: &mut [f64], width: usize, slot: usize, mark: f64, coordinates: &[f64]) {
+    store[slot * width] = mark;
     store[slot * width + 1..(slot + 1) * width].copy_from_slice(coordinates);
 }
 
@@ -65,23 +65,26 @@ impl Set {
         let mut set = Set::opened();
         let mut rust = new_projection();
         for slot in 0..FACE_SLOTS {
-            let t = rust.oracle_face_triangle(slot % 10, slot >= 10, slot >= 20);
-            set.fill_face(slot, &of_triangle(t));
+            let t = rust.oracle_face_triangle(slot);
+            set.put_face(slot, 1.0, &of_triangle(t));
         }
         for slot in 0..SPHERE_SLOTS {
-            let origin = (slot % 120 / 10) as u8;
-            let t = rust.oracle_spherical_triangle(slot % 10, origin, slot >= 120);
-            set.fill_sphere(slot, &of_spherical_triangle(t));
+            let t = rust.oracle_spherical_triangle(slot);
+            set.put_sphere(slot, 1.0, &of_spherical_triangle(t));
         }
         set
     }
 
-    pub fn fill_face(&mut self, slot: usize, coordinates: &[f64]) {
-        fill(&mut self.face, FACE_WIDTH, slot, coordinates);
+    pub fn put_row(&mut self, row: usize, numbers: [f64; 3]) {
+        self.frame[3 * row..3 * row + 3].copy_from_slice(&numbers);
     }
 
-    pub fn fill_sphere(&mut self, slot: usize, coordinates: &[f64]) {
-        fill(&mut self.sphere, SPHERE_WIDTH, slot, coordinates);
+    pub fn put_face(&mut self, slot: usize, mark: f64, coordinates: &[f64]) {
+        put(&mut self.face, FACE_WIDTH, slot, mark, coordinates);
+    }
+
+    pub fn put_sphere(&mut self, slot: usize, mark: f64, coordinates: &[f64]) {
+        put(&mut self.sphere, SPHERE_WIDTH, slot, mark, coordinates);
     }
 
     pub fn face_slot(&self, slot: usize) -> Option<&[f64]> {

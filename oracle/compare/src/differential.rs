@@ -1,7 +1,7 @@
 // The run: for each of N turns one input of every call, on the set that is kept, on newly opened sets and on foreign contents.
 
 use crate::calls::{Call, Forward, Inverse, Place, Unplace};
-use crate::common::fields::{lon_lat, of_spherical, spherical};
+use crate::common::fields::{lon_lat, of_lon_lat, of_spherical, spherical};
 use crate::common::refusals::RIGHT;
 use crate::counts::{Asked, Counts, Where, FROM_LON_LAT, NEAREST, TO_LON_LAT};
 use crate::draw::Draw;
@@ -89,8 +89,7 @@ impl Alone {
     }
 
     fn to_lon_lat(&mut self, x: [f64; 2]) -> Result<Vec<f64>, u8> {
-        let given =
-            conversions::to_lon_lat(spherical(x)).map(|l| vec![l.longitude(), l.latitude()]);
+        let given = conversions::to_lon_lat(spherical(x)).map(|l| of_lon_lat(l).to_vec());
         let ours = self.library.to_lon_lat(x);
         self.compare(TO_LON_LAT, x, ours, given.clone());
         given

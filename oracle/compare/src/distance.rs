@@ -6,18 +6,14 @@ use crate::common::fields::{spherical, whole};
 use crate::common::generator::Generator;
 use crate::common::places::{borders, meridians};
 use crate::common::values::moved;
+use crate::draw::globe;
+use crate::inputs::lon_lat_of;
 use crate::plain::{self, Ours, Plain, NO_SLOT};
 use crate::row::{Row, Unit};
 use crate::step_distance;
 use a5::core::constants::{DISTANCE_TO_EDGE, TWO_PI_OVER_5};
-use a5::core::coordinate_transforms::to_lon_lat;
 use a5::core::origin::find_nearest_origin;
 use std::f64::consts::PI;
-
-fn globe(g: &mut Generator) -> [f64; 2] {
-    let latitude = g.between(-1.0, 1.0).asin().to_degrees();
-    [g.between(-180.0, 180.0), latitude]
-}
 
 fn sphere(g: &mut Generator) -> [f64; 2] {
     [g.between(-PI, PI), g.between(-1.0, 1.0).acos()]
@@ -37,9 +33,9 @@ fn ties(g: &mut Generator, list: &[[f64; 2]]) -> [f64; 2] {
 
 fn ties_in_degrees(g: &mut Generator, list: &[[f64; 2]]) -> [f64; 2] {
     loop {
-        let l = to_lon_lat(spherical(ties(g, list)));
-        if l.latitude().abs() <= 90.0 {
-            return [l.longitude(), l.latitude()];
+        let place = lon_lat_of(ties(g, list));
+        if place[1].abs() <= 90.0 {
+            return place;
         }
     }
 }

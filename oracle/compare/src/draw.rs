@@ -44,6 +44,12 @@ fn edges() -> Vec<[[f64; 3]; 2]> {
     list
 }
 
+// Longitude and latitude, evenly over the globe.
+pub fn globe(g: &mut Generator) -> [f64; 2] {
+    let latitude = g.between(-1.0, 1.0).asin().to_degrees();
+    [g.between(-180.0, 180.0), latitude]
+}
+
 impl Draw {
     pub fn new(seed: u64) -> Draw {
         let mut draw = Draw {
@@ -113,15 +119,10 @@ impl Draw {
         }
     }
 
-    fn globe(&mut self) -> [f64; 2] {
-        let latitude = self.g.between(-1.0, 1.0).asin().to_degrees();
-        [self.g.between(-180.0, 180.0), latitude]
-    }
-
     // Longitude and latitude.
     pub fn degrees(&mut self) -> [f64; 2] {
         match self.g.whole(0, 8) {
-            0..=2 => self.globe(),
+            0..=2 => globe(&mut self.g),
             3 => [self.g.between(-360.0, 360.0), self.g.between(-90.0, 90.0)],
             // where origins tie
             4 => {

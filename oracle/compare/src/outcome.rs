@@ -1,5 +1,7 @@
 // What a call has given: its status, and what then stands in the numbers that were lent for an answer.
 
+use crate::common::fields::bits;
+
 // What stands there before the call. "A refusal" leaves it.
 pub const BEFORE: f64 = -7.5;
 
@@ -25,8 +27,7 @@ impl Outcome {
 
     // Bit for bit, also where it is NaN: an answer has none, for it would be refused with 9.
     pub fn same(&self, other: &Outcome) -> bool {
-        let bits = |o: &Outcome| -> Vec<u64> { o.numbers.iter().map(|x| x.to_bits()).collect() };
-        self.status == other.status && bits(self) == bits(other)
+        self.status == other.status && bits(&self.numbers) == bits(&other.numbers)
     }
 
     pub fn show(&self) -> String {

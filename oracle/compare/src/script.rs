@@ -2,7 +2,7 @@
 // outcomes and all numbers of the buffers must be the same. What should stand there comes from the Rust's side alone.
 
 use crate::calls::{self, Call};
-use crate::common::fields::{of_spherical_triangle, of_triangle, whole};
+use crate::common::fields::{bits, of_spherical_triangle, of_triangle, whole};
 use crate::common::refusals::{lengths, RIGHT};
 use crate::counts::{Asked, Counts, Where, FORWARD, OPEN, SHOW, SLOT_STATE};
 use crate::library::{Buffers, Library};
@@ -111,21 +111,17 @@ impl Script {
     }
 
     pub fn put_row(&mut self, row: usize, numbers: [f64; 3]) {
-        self.set.frame[3 * row..3 * row + 3].copy_from_slice(&numbers);
+        self.set.put_row(row, numbers);
         self.lend(&self.set.clone());
     }
 
     pub fn put_face(&mut self, slot: usize, mark: f64, coordinates: &[f64]) {
-        let at = slot * FACE_WIDTH;
-        self.set.face[at] = mark;
-        self.set.face[at + 1..at + FACE_WIDTH].copy_from_slice(coordinates);
+        self.set.put_face(slot, mark, coordinates);
         self.lend(&self.set.clone());
     }
 
     pub fn put_sphere(&mut self, slot: usize, mark: f64, coordinates: &[f64]) {
-        let at = slot * SPHERE_WIDTH;
-        self.set.sphere[at] = mark;
-        self.set.sphere[at + 1..at + SPHERE_WIDTH].copy_from_slice(coordinates);
+        self.set.put_sphere(slot, mark, coordinates);
         self.lend(&self.set.clone());
     }
 
@@ -155,7 +151,6 @@ impl Script {
     pub fn check_kept(&self) {
         let rust = self.kept.as_ref().expect("a set that is kept");
         assert!(self.full, "every slot has been used");
-        let bits = |x: &[f64]| -> Vec<u64> { x.iter().map(|x| x.to_bits()).collect() };
         for (slot, t) in rust.oracle_face_triangles().iter().enumerate() {
             let own = of_triangle(t.expect("all are filled"));
             assert_eq!(Some(bits(&own)), self.set.face_slot(slot).map(bits));

@@ -1,21 +1,20 @@
 // The two conversions as calls. The Rust refuses nothing: the refusals are document 01's, under its words.
 
-use crate::common::refusals::{check, finite};
+use crate::common::fields::{of_lon_lat, of_spherical};
+use crate::common::refusals::{check, finite, LON_LAT_LIMITS, SPHERICAL_LIMITS};
 use a5::coordinate_systems::{LonLat, Spherical};
 use a5::core::coordinate_transforms;
 
-// "longitude ±360, latitude ±90"; "longitude, latitude".
 pub fn from_lon_lat(l: LonLat) -> Result<Spherical, u8> {
-    check([l.longitude(), l.latitude()], [360.0, 90.0])?;
+    check(of_lon_lat(l), LON_LAT_LIMITS)?;
     let answer = coordinate_transforms::from_lon_lat(l);
-    finite([answer.theta().get(), answer.phi().get()])?;
+    finite(of_spherical(answer))?;
     Ok(answer)
 }
 
-// "theta and phi ±8"; "theta, phi".
 pub fn to_lon_lat(s: Spherical) -> Result<LonLat, u8> {
-    check([s.theta().get(), s.phi().get()], [8.0, 8.0])?;
+    check(of_spherical(s), SPHERICAL_LIMITS)?;
     let answer = coordinate_transforms::to_lon_lat(s);
-    finite([answer.longitude(), answer.latitude()])?;
+    finite(of_lon_lat(answer))?;
     Ok(answer)
 }

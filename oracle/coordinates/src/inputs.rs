@@ -1,6 +1,8 @@
 // The arguments that each function is asked at.
 
-use crate::common::arguments::{few, join, limits, pairs, spoilt, wild, within, SMALLEST};
+use crate::common::arguments::{
+    few, join, limits, pairs, spherical_ends, spoilt, wild, within, BROKEN, SMALLEST,
+};
 use crate::common::fields::of_spherical;
 use crate::common::generator::Generator;
 use crate::common::values::{both_signs, moved, near, specials};
@@ -225,14 +227,13 @@ pub fn weights_and_triangle(g: &mut Generator) -> Vec<[f64; 9]> {
 
 // Longitude and latitude: the limits and their neighbours, and what is not finite, each with each; then the globe.
 pub fn lon_lat_calls(g: &mut Generator) -> Vec<[f64; 2]> {
-    let broken = [f64::NAN, f64::INFINITY, -f64::INFINITY, f64::MAX, SMALLEST];
     let longitudes = [
         &limits(360.0)[..],
-        &broken,
+        &BROKEN,
         &[0.0, -0.0, 180.0, -180.0, -93.0],
     ]
     .concat();
-    let latitudes = [&limits(90.0)[..], &broken, &[0.0, -0.0, 45.0, 90.5]].concat();
+    let latitudes = [&limits(90.0)[..], &BROKEN, &[0.0, -0.0, 45.0, 90.5]].concat();
     let mut list = pairs(&longitudes, &latitudes);
     for longitude in [87.0, -273.0, 267.0, 179.99999999999997, -93.00000000000001] {
         list.extend(near(longitude).map(|x| [x, 30.0]));
@@ -245,11 +246,9 @@ pub fn lon_lat_calls(g: &mut Generator) -> Vec<[f64; 2]> {
     list
 }
 
-// Theta and phi: the limits and their neighbours, and what is not finite, each with each; then the sphere.
+// Theta and phi: their ends; then the sphere.
 pub fn spherical_calls(g: &mut Generator) -> Vec<[f64; 2]> {
-    let broken = [f64::NAN, f64::INFINITY, -f64::INFINITY, f64::MAX, SMALLEST];
-    let few = [&limits(8.0)[..], &broken, &[0.0, -0.0, FRAC_PI_2, -PI, PI]].concat();
-    let mut list = pairs(&few, &few);
+    let mut list = spherical_ends();
     for turn in [-1, 0, 1] {
         // longitudes about -180, -93 and 0
         for degrees in [-87.0, 0.0, 93.0] {

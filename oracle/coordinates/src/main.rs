@@ -10,14 +10,14 @@ mod steps;
 
 use common::fields;
 use common::generator::Generator;
-use common::list::List;
+use common::list::{self, List};
 
 fn from_lon_lat(x: [f64; 2]) -> Result<[f64; 2], u8> {
     calls::from_lon_lat(fields::lon_lat(x)).map(fields::of_spherical)
 }
 
 fn to_lon_lat(x: [f64; 2]) -> Result<[f64; 2], u8> {
-    calls::to_lon_lat(fields::spherical(x)).map(|l| [l.longitude(), l.latitude()])
+    calls::to_lon_lat(fields::spherical(x)).map(fields::of_lon_lat)
 }
 
 fn answers() -> List {
@@ -54,5 +54,5 @@ fn answers() -> List {
 }
 
 fn main() {
-    common::run(selftest::run, answers);
+    list::run(selftest::run, answers);
 }

@@ -47,9 +47,5 @@ fn answers() -> List {
 }
 
 fn main() {
-    if std::env::args().nth(1).as_deref() == Some("test") {
-        selftest::run();
-        return;
-    }
-    answers().write();
+    list::run(selftest::run, answers);
 }

@@ -1,12 +1,11 @@
 // Nearest and open as calls. The Rust refuses nothing and has no lent buffers: these are document 01's, under its words.
 
 use crate::common::fields::{of_whole, spherical, whole};
-use crate::common::refusals::{check, lengths, FACE_STORE, FRAME, SPHERE_STORE};
+use crate::common::refusals::{check, lengths, RIGHT, SPHERICAL_LIMITS};
 use a5::core::origin::find_nearest_origin;
 
-// "theta and phi ±8"; "theta, phi".
 pub fn nearest(x: [f64; 2]) -> Result<[f64; 1], u8> {
-    check(x, [8.0, 8.0])?;
+    check(x, SPHERICAL_LIMITS)?;
     Ok([whole(find_nearest_origin(spherical(x)).id as usize)])
 }
 
@@ -18,7 +17,7 @@ pub fn open(given: [f64; 3]) -> Result<(), u8> {
 // unchanged."
 pub fn changed(given: [f64; 3]) -> [usize; 3] {
     match open(given) {
-        Ok(()) => [FRAME, FACE_STORE, SPHERE_STORE],
+        Ok(()) => RIGHT,
         Err(_) => [0; 3],
     }
 }

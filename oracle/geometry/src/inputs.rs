@@ -1,16 +1,17 @@
 // The arguments that each function is asked at.
 
-use crate::common::arguments::{few, join, limits, pairs, spoilt, wild, within, SMALLEST};
+use crate::common::arguments::{
+    all_lengths, few, join, pairs, spherical_ends, spoilt, wild, within, SMALLEST,
+};
 use crate::common::fields::{of_spherical, spherical, whole};
 use crate::common::generator::Generator;
 use crate::common::places::{borders, meridians, rows};
-use crate::common::refusals::{FACE_STORE, FRAME, SPHERE_STORE};
 use crate::common::values::{both_signs, moved, near, specials};
 use a5::core::constants::{DISTANCE_TO_EDGE, DISTANCE_TO_VERTEX, PI_OVER_5, TWO_PI_OVER_5};
 use a5::core::coordinate_transforms::to_cartesian;
 use a5::core::origin::get_origins;
 use a5::steps::cos;
-use std::f64::consts::{FRAC_PI_2, PI};
+use std::f64::consts::PI;
 
 pub fn range(count: usize) -> Vec<[f64; 1]> {
     (0..count).map(|n| [whole(n)]).collect()
@@ -22,22 +23,14 @@ pub fn grid(rows: usize, columns: usize) -> Vec<[f64; 2]> {
     pairs(&numbers(rows), &numbers(columns))
 }
 
-// Empty, one short, right and one long, for each buffer with each.
 pub fn lengths() -> Vec<[f64; 3]> {
-    let of = |size: usize| [0, size - 1, size, size + 1].map(whole);
-    let mut list = Vec::new();
-    for two in pairs(&of(FRAME), &of(FACE_STORE)) {
-        list.extend(of(SPHERE_STORE).map(|c| join(two, [c])));
-    }
-    list
+    let wholes = |lent: [usize; 3]| lent.map(whole);
+    all_lengths().into_iter().map(wholes).collect()
 }
 
-// Theta and phi: the limits and their neighbours, and what is not finite, each with each; the poles; ties; borders; the
-// sphere.
+// Theta and phi: their ends; the poles; ties; borders; the sphere.
 pub fn nearest(g: &mut Generator) -> Vec<[f64; 2]> {
-    let broken = [f64::NAN, f64::INFINITY, -f64::INFINITY, f64::MAX, SMALLEST];
-    let edges = [&limits(8.0)[..], &broken, &[0.0, -0.0, FRAC_PI_2, -PI, PI]].concat();
-    let mut list = pairs(&edges, &edges);
+    let mut list = spherical_ends();
     for k in -10..=10 {
         let theta = k as f64 * PI / 5.0;
         list.extend([0.0, moved(PI, -1), PI, moved(PI, 1), -PI].map(|phi| [theta, phi]));

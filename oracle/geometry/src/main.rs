@@ -10,7 +10,7 @@ mod steps;
 
 use common::fields::whole;
 use common::generator::Generator;
-use common::list::List;
+use common::list::{self, List};
 use common::refusals::{FACE_STORE, FRAME, SPHERE_STORE};
 
 // The tables: twelve origins of seven numbers, thirty triangles of three corners, 62 rows, and both stores, three numbers
@@ -40,5 +40,5 @@ fn answers() -> List {
 }
 
 fn main() {
-    common::run(selftest::run, answers);
+    list::run(selftest::run, answers);
 }

@@ -25,11 +25,10 @@ pub fn origin(x: [f64; 2]) -> [f64; 1] {
     [all[place]]
 }
 
-// Of the triangle of a face slot, a corner. "Face slot i (0..9) is the base triangle, 10+i reflected with scale 2, 20+i
-// reflected and squashed."
+// Of the triangle of a face slot, a corner.
 pub fn face_triangle(x: [f64; 2]) -> [f64; 2] {
     let [slot, corner] = x.map(of_whole);
-    let t = projection().oracle_face_triangle(slot % 10, slot >= 10, slot >= 20);
+    let t = projection().oracle_face_triangle(slot);
     [t.a, t.b, t.c][corner].into()
 }
 

@@ -4,12 +4,11 @@
 #[path = "../../common/mod.rs"]
 mod common;
 
-use a5::coordinate_systems::{Cartesian, Face};
 use a5::core::coordinate_transforms::to_cartesian;
 use a5::core::origin::get_origins;
 use a5::projections::dodecahedron::DodecahedronProjection;
 use common::fields::{of_whole, whole};
-use common::list::List;
+use common::list::{self, List};
 
 fn slots(count: usize) -> Vec<[f64; 2]> {
     (0..3 * count)
@@ -21,24 +20,16 @@ fn projection() -> &'static mut DodecahedronProjection {
     DodecahedronProjection::get_thread_local()
 }
 
-// "Face slot i (0..9) is the base triangle, 10+i reflected with scale 2, 20+i reflected and squashed."
-fn face_vertices(slot: usize) -> [Face; 3] {
-    let t = projection().oracle_face_triangle(slot % 10, slot >= 10, slot >= 20);
-    [t.a, t.b, t.c]
-}
-
-// "Sphere slot is 10·origin + index, plus 120 if reflected."
-fn sphere_vertices(slot: usize) -> [Cartesian; 3] {
-    let t = projection().oracle_spherical_triangle(slot % 10, (slot % 120 / 10) as u8, slot >= 120);
-    [t.a, t.b, t.c]
-}
-
 fn face_vertex(x: [f64; 2]) -> [f64; 2] {
-    face_vertices(of_whole(x[0]))[of_whole(x[1])].into()
+    let [slot, vertex] = x.map(of_whole);
+    let t = projection().oracle_face_triangle(slot);
+    [t.a, t.b, t.c][vertex].into()
 }
 
 fn sphere_vertex(x: [f64; 2]) -> [f64; 3] {
-    sphere_vertices(of_whole(x[0]))[of_whole(x[1])].into()
+    let [slot, vertex] = x.map(of_whole);
+    let t = projection().oracle_spherical_triangle(slot);
+    [t.a, t.b, t.c][vertex].into()
 }
 
 // A triangle's first vertex is a face's centre: of an unreflected slot its own origin's, of a reflected one another's.
@@ -59,5 +50,5 @@ fn answers() -> List {
 }
 
 fn main() {
-    common::run(test, answers);
+    list::run(test, answers);
 }

@@ -2,7 +2,8 @@
 
 use crate::generator::Generator;
 
-pub const HEADER: &[u8] = b"EAD\0\x01";
+// "EAD", 16-bit version 1.
+pub const HEADER: &[u8; 5] = b"EAD\0\x01";
 
 // The session of document 01.
 pub const SESSION: &[u8] = &[

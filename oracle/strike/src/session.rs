@@ -1,11 +1,9 @@
 // A session, from document 01's "The strike program".
 
 use crate::calls;
+use crate::inputs::HEADER;
 use a5::projections::dodecahedron::DodecahedronProjection;
 use std::io::{self, Read, Write};
-
-// "EAD", 16-bit version 1.
-const HEADER: [u8; 5] = *b"EAD\0\x01";
 
 // "It takes at most 4,294,967,295 records."
 const MOST: u64 = 4_294_967_295;
@@ -63,7 +61,7 @@ fn answer(
 pub fn run(mut input: impl Read, mut output: impl Write) -> io::Result<()> {
     let mut set = DodecahedronProjection::new().expect("the frame has 62 rows");
     let mut header = [0; 5];
-    if fill(&mut input, &mut header)? < 5 || header != HEADER {
+    if fill(&mut input, &mut header)? < 5 || header != *HEADER {
         return refuse(&mut output, 11);
     }
     for _ in 0..MOST {

@@ -13,23 +13,16 @@ impl DodecahedronProjection {
         self.normalize_gamma(gamma)
     }
 
-    pub fn oracle_face_triangle(
-        &mut self,
-        index: usize,
-        reflected: bool,
-        squashed: bool,
-    ) -> FaceTriangle {
-        self.get_face_triangle(index, reflected, squashed)
+    // "Face slot i (0..9) is the base triangle, 10+i reflected with scale 2, 20+i reflected and squashed."
+    pub fn oracle_face_triangle(&mut self, slot: usize) -> FaceTriangle {
+        self.get_face_triangle(slot % 10, slot >= 10, slot >= 20)
             .expect("a triangle")
     }
 
-    pub fn oracle_spherical_triangle(
-        &mut self,
-        index: usize,
-        origin: OriginId,
-        reflected: bool,
-    ) -> SphericalTriangle {
-        self.get_spherical_triangle(index, origin, reflected)
+    // "Sphere slot is 10·origin + index, plus 120 if reflected."
+    pub fn oracle_spherical_triangle(&mut self, slot: usize) -> SphericalTriangle {
+        let origin = (slot % 120 / 10) as OriginId;
+        self.get_spherical_triangle(slot % 10, origin, slot >= 120)
             .expect("a triangle")
     }
 
