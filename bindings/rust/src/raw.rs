@@ -1,5 +1,6 @@
 // The library's functions as they are linked; bindings/a5.h says what each does. A slice is a pointer and how many
-// numbers there are. oracle/compare includes this file: its calls are lent what no safe function would lend.
+// numbers there are. oracle/compare includes this file: it looks at what a refusal leaves where an answer would stand,
+// which the safe functions do not show.
 
 // The calls on a set take two numbers, and then an origin or, of place, where to write one.
 macro_rules! on_a_set {

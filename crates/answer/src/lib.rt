@@ -1,5 +1,6 @@
-// Refusals and their numbers, and the checks of one number (document 01, "Calls and their numbers").
+// Refusals and their numbers, and the checks of one number (document 01, "Calls and their numbers"); the bits of a number.
 ghost use mathlib.Core.Path.{_≡_};
+ghost use lib.Ieee.{binary64, toBits};
 ghost use Rattle.answer.specs.Answer.{numberOf, givenCheck};
 ghost use Rattle.answer.specs.Number.{isFinite, checkNumber};
 
@@ -68,4 +69,15 @@ pub fn check_number(x: f64, limit: f64) -> Check
         }
     }
     Check::Refused(Refusal::OutOfRange)
+}
+
+// The bits of x; 7ff8000000000000 for every NaN. f64::to_bits is not defined there, so a NaN is met before it.
+pub fn bits(x: f64) -> u64
+    ensures { λ r. ⌜ r ≡ toBits binary64 x ⌝ }
+{
+    if x != x {
+        0x7ff8_0000_0000_0000
+    } else {
+        f64::to_bits(x)
+    }
 }

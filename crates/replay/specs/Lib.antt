@@ -1,3 +1,4 @@
+pub mod Alike
 pub mod Outcome
 pub mod Record
 pub mod Tally

@@ -1,5 +1,5 @@
 // What a function comes to, as a list stores it.
-use crate::pattern::bits;
+use answer::bits;
 ghost use mathlib.Core.Path.{_≡_};
 ghost use lib.Ieee.{binary64, toBits};
 ghost use Rattle.replay.specs.Outcome.{outcomeOf, same};

@@ -1,6 +1,6 @@
-// Floats and their bits. f64::from_bits and f64::to_bits are not defined at a NaN, so each NaN is met before them.
+// The float of bits. f64::from_bits is not defined at a NaN, so each NaN is met before it.
 ghost use mathlib.Core.Path.{_≡_};
-ghost use lib.Ieee.{binary64, ofBits, toBits, nanBits};
+ghost use lib.Ieee.{binary64, ofBits, nanBits};
 
 // Whether the bits are a NaN's: without the sign they lie above infinity's.
 fn is_nan(bits: u64) -> bool
@@ -17,16 +17,5 @@ pub fn value(bits: u64) -> f64
         0.0 / 0.0
     } else {
         f64::from_bits(bits)
-    }
-}
-
-// The bits of x; 7ff8000000000000 for a NaN, as the list has it.
-pub fn bits(x: f64) -> u64
-    ensures { λ r. ⌜ r ≡ toBits binary64 x ⌝ }
-{
-    if x != x {
-        0x7ff8_0000_0000_0000
-    } else {
-        f64::to_bits(x)
     }
 }

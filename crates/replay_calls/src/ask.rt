@@ -1,4 +1,5 @@
 // The calls on the buffers that are lent, each at a record's arguments.
+use answer::bits;
 use coordinates::conversions::LonLatAnswer;
 use coordinates::conversions::SphericalAnswer;
 use dodecahedron::calls;
@@ -6,7 +7,6 @@ use dodecahedron::used::PlaceAnswer;
 use replay::outcome::Outcome;
 use replay::outcome::refused;
 use replay::outcome::two;
-use replay::pattern::bits;
 use replay::record::word;
 use set::checks::FaceAnswer;
 use set::open::OpenAnswer;

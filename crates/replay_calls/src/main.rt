@@ -7,7 +7,6 @@ mod places;
 mod set_up;
 
 use crate::lent::OPEN;
-use crate::numbers::unlike;
 use crate::places::FACE_AT;
 use crate::places::FACE_STORE;
 use crate::places::FRAME;
@@ -15,6 +14,7 @@ use crate::places::NO_SUCH_PLACE;
 use crate::places::NOTES;
 use crate::places::SPHERE_AT;
 use crate::places::SPHERE_STORE;
+use replay::numbers::unlike;
 use replay::outcome::Outcome;
 use replay::outcome::refused;
 use replay::record;
@@ -23,7 +23,7 @@ use replay::record::Next;
 use replay::report;
 use replay::tally;
 ghost use mathlib.Core.Path.{_≡_};
-ghost use Rattle.replay_calls.specs.Alike.{AlikeFrom};
+ghost use Rattle.replay.specs.Alike.{AlikeFrom};
 
 // The number that the comparisons of the set are counted under. No record has it.
 const BUFFERS: u8 = 7;

@@ -1,15 +1,13 @@
 // Open on buffers of any length, and the rows of a buffer that it has written.
 use crate::tables::NO_SUCH_PLACE;
+use replay::numbers::unlike;
 use replay::outcome::Outcome;
 use replay::outcome::refused;
 use replay::outcome::three;
-use replay::pattern::bits;
 use replay::record::word;
 use set::open::OpenAnswer;
 use set::open::open;
-ghost use mathlib.Core.Path.{_≡_};
 ghost use Prim.Native.Nat.{_≤_};
-ghost use Rattle.replay_geometry.specs.Foreign.{AllForeign};
 
 // What every buffer holds before open: a number that open never writes.
 pub const FOREIGN: f64 = 7.5;
@@ -24,21 +22,6 @@ pub fn row(buffer: &[f64], words: &[u8; 96]) -> Outcome {
     three(buffer[at], buffer[at + 1], buffer[at + 2])
 }
 
-// How many numbers are no longer the foreign one, bit for bit: none only where each still is.
-fn changed(buffer: &[f64]) -> usize
-    ensures { λ r. ⌜ (r ≡ 0 → AllForeign (now (buffer .entry))) ⌝ }
-{
-    let mut count: usize = 0;
-    let mut i: usize = 0;
-    while i < buffer.len() {
-        if bits(buffer[i]) != bits(FOREIGN) {
-            count += 1;
-        }
-        i += 1;
-    }
-    count
-}
-
 // What open answered, 0 or the refusal's number, and how many numbers it changed in each buffer.
 struct Effect {
     status: u8,
@@ -48,11 +31,12 @@ struct Effect {
 }
 
 fn effect_on(status: u8, frame: &[f64; 187], face: &[f64; 211], sphere: &[f64; 2401]) -> Effect {
+    let before = [FOREIGN; 2401];
     Effect {
         status: status,
-        frame: changed(frame),
-        face: changed(face),
-        sphere: changed(sphere),
+        frame: unlike(frame, &before, 0),
+        face: unlike(face, &before, 0),
+        sphere: unlike(sphere, &before, 0),
     }
 }
 

@@ -1,2 +1,1 @@
 pub mod Performed
-pub mod Same

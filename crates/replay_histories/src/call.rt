@@ -1,4 +1,5 @@
 // A call that is lent the set, with its other arguments, and what it comes to on a set.
+use answer::bits;
 use coordinates::conversions::LonLatAnswer;
 use coordinates::conversions::SphericalAnswer;
 use coordinates::coords::Face;
@@ -12,7 +13,6 @@ use dodecahedron::used::PlaceAnswer;
 use replay::outcome::Outcome;
 use replay::outcome::refused;
 use replay::outcome::two;
-use replay::pattern::bits;
 use set::checks::FaceAnswer;
 use set::open::OpenAnswer;
 use set::open::open;

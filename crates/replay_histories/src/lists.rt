@@ -5,7 +5,7 @@ use crate::counts::count;
 use crate::counts::count_outcome;
 use crate::draw::draw;
 use crate::due::expected;
-use crate::stores::same;
+use replay::numbers::unlike;
 use set::open::open;
 
 // One call on the set, compared: what it comes to, and every number of the set after it.
@@ -23,7 +23,9 @@ fn turn(
     let given = perform(frame, face, sphere, call);
     let due = expected(call, due_face, due_sphere);
     count_outcome(call, given, due, compared, differ);
-    let as_due = same(frame, due_frame) && same(face, due_face) && same(sphere, due_sphere);
+    let as_due = unlike(frame, due_frame, 0) == 0
+        && unlike(face, due_face, 0) == 0
+        && unlike(sphere, due_sphere, 0) == 0;
     count(3, as_due, compared, differ);
 }
 

@@ -1,25 +1,5 @@
-// Stores bit for bit.
-use replay::pattern::bits;
-ghost use mathlib.Core.Path.{_≡_};
-ghost use mathlib.Core.Bool.{true};
-ghost use Rattle.replay_histories.specs.Same.{SameBits};
-
-// Whether two buffers hold the same numbers. Where they differ in length, they do not.
-pub fn same(a: &[f64], b: &[f64]) -> bool
-    ensures { λ r. ⌜ (r ≡ true → SameBits (now (a .entry)) (now (b .entry))) ⌝ }
-{
-    if a.len() != b.len() {
-        return false;
-    }
-    let mut i: usize = 0;
-    while i < a.len() {
-        if bits(a[i]) != bits(b[i]) {
-            return false;
-        }
-        i += 1;
-    }
-    true
-}
+// What the stores gather.
+use answer::bits;
 
 // A number that open left is +0.0, and any other was written.
 fn written(old: f64, new: f64) -> f64 {

@@ -1,11 +1,11 @@
 // The lines of answers and refusals. Each function writes from a place on, and returns the place
 // behind what it wrote.
+use answer::bits;
 use coordinates::lonlat::LonLat;
 use dodecahedron::used::Place;
 ghost use mathlib.Core.Path.{_≡_};
 ghost use mathlib.Core.List.{_∷_};
 ghost use Prim.Native.Nat.{_+_, _≤_, _<_};
-ghost use lib.Ieee.{binary64, toBits};
 ghost use lib.ListN.{length};
 ghost use Rattle.dodecahedron.specs.Slots.{put};
 ghost use Rattle.strike_records.specs.Line.{SPACE, LINE, digit as Line·digit, hex, decimal, bitsOf, placeLine, lonLatLine, refusalLine};
@@ -33,18 +33,7 @@ fn write_hex(run: &mut [u8], bits: u64)
     }
 }
 
-// The bits of x; 7ff8000000000000 for a NaN, which no answer is.
-fn bits(x: f64) -> u64
-    ensures { λ r. ⌜ r ≡ toBits binary64 x ⌝ }
-{
-    if x != x {
-        0x7ff8_0000_0000_0000
-    } else {
-        f64::to_bits(x)
-    }
-}
-
-// A space and the digits of a float's bits.
+// A space and the digits of a float's bits. No answer is a NaN.
 fn write_bits(out: &mut [u8], at: usize, x: f64) -> usize
     requires { ⌜ at + 17 ≤ length (now out) ⌝ }
     ensures { λ r. ⌜ r ≡ at + 17 ⌝ }

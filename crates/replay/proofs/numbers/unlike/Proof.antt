@@ -6,9 +6,9 @@ use native.Mathlib.Omega.{arith}
 use lib.ListN.{length}
 use borrow.Author.Count.{below-more}
 use borrow.Author.Needs.{needs}
-use Rattle.replay_calls.specs.Alike.{AlikeAt}
-use Rattle.replay_calls.proofs.numbers.unlike.Statement.{statement}
-use Rattle.replay_calls.proofs.numbers.unlike.Tie as tie
+use Rattle.replay.specs.Alike.{AlikeAt}
+use Rattle.replay.proofs.numbers.unlike.Statement.{statement}
+use Rattle.replay.proofs.numbers.unlike.Tie as tie
 
 abbrev Inv-loop : tie.InvT-loop
 Inv-loop buffer wanted at count₀ i₀ count i =

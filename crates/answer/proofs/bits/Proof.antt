@@ -1,12 +1,12 @@
--- `pattern::bits` meets its contract: only a NaN differs from itself, and `toBits` has the code's number for it. Assumes nothing.
+-- `bits` meets its contract: only a NaN differs from itself, and `toBits` has the code's number for it. Assumes nothing.
 use borrow.Author.Needs.{needs}
 use mathlib.Core.Path.{_≡_, refl, sym, _∙_, ap, subst}
-use mathlib.Core.Bool.{Bool, true, false, not}
+use mathlib.Core.Bool.{false, not}
 use lib.Dec.{T}
 use lib.Ieee.{Float, nan, inf, fin, binary64, isNan, ne, toBits}
 use lib.Ieee.Compare.{differs-from-itself, nan-differs}
-use Rattle.replay.proofs.pattern.bits.Statement.{statement}
-use Rattle.replay.proofs.pattern.bits.Tie as tie
+use Rattle.answer.proofs.bits.Statement.{statement}
+use Rattle.answer.proofs.bits.Tie as tie
 
 not-nan : (x : Float) → ne x x ≡ false → T (not (isNan x))
 unfolding isNan

@@ -3,8 +3,8 @@ use mathlib.Core.Path.{subst}
 use lib.Dec.{T}
 use native.Mathlib.Omega.{arith}
 use borrow.Author.Needs.{needs}
-use Rattle.replay_calls.proofs.numbers.lacks.Statement.{statement}
-use Rattle.replay_calls.proofs.numbers.lacks.Tie as tie
+use Rattle.replay.proofs.numbers.lacks.Statement.{statement}
+use Rattle.replay.proofs.numbers.lacks.Tie as tie
 
 pub lacks-spec : {M : Type 1} → statement M
 lacks-spec = tie.close (tie.spec (λ c e. absurd (subst T e tt)) (λ c. search needs) (λ c e. absurd (subst T e tt)) (λ c e. omega arith))
