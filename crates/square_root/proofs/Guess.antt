@@ -1,11 +1,10 @@
 -- A guess whose square lies near enough is the nearest root. Assumes nothing.
-use mathlib.Core.Path.{_≡_, sym, ap, _∙_, subst}
+use mathlib.Core.Path.{_≡_, sym, subst}
 use Prim.Native.Nat.{ℕ, zero, suc, _+_, _-_, _*_, _/_, _%_, _^_, _≤_, _<_}
 use native.Mathlib.Nat.{lt-of-not-le, mul-le-mul}
 use native.Mathlib.Decide.{decLe}
 use native.Mathlib.Omega.{arith}
 use mathlib.Core.Bool.{not}
-use borrow.Author.Tests.{le-leb}
 use lib.Arith.{le→nltb}
 use lib.Dec.{T}
 use lib.Ieee.{binary64, nanBits}

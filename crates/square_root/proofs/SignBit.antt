@@ -1,26 +1,14 @@
--- The sign bit: the pattern of a value is that of its size, which is below 2 ^ 63, and 2 ^ 63 more where the value is negative. A NaN is told by `x != x` and made by 0 / 0. Assumes nothing.
-use mathlib.Core.Path.{_≡_, refl, sym, ap, _∙_}
+-- The sign bit: the pattern of a value is that of its size, which is below 2 ^ 63, and 2 ^ 63 more where the value is negative. A NaN is made by 0 / 0. Assumes nothing.
+use mathlib.Core.Path.{_≡_, refl, ap, _∙_}
 use Prim.Native.Nat.{ℕ, zero, suc, _+_, _%_, _^_, _<_}
 use native.Mathlib.Omega.{arith}
-use mathlib.Core.Bool.{Bool, true, false, not, cond, true≢false}
+use mathlib.Core.Bool.{Bool, true, false, not, cond}
 use borrow.Author.Tests.{le-leb, lt-leb}
 use lib.Dec.{T, leb}
-use lib.Ieee.{Float, nan, inf, fin, binary64, div, neg, ne, ofBits, toBits, nanBits, isNan, fits}
+use lib.Ieee.{Float, nan, inf, fin, binary64, div, neg, ofBits, toBits, nanBits, isNan, fits}
 use lib.Ieee.Bits.{ofBits-toBits, toBits-lt, nanBits-is}
-use lib.Ieee.Compare.{differs-from-itself, nan-differs}
 use lib.Ieee.Fits.{neg-fits, inf-fits}
 use Rattle.square_root.specs.Signs.{abs, negative}
-
--- ---- a NaN, and what is none
-
-pub is-nan : (x : Float) → ne x x ≡ true → x ≡ nan
-is-nan x e = differs-from-itself x (rw e tt)
-
-pub is-number : (x : Float) → ne x x ≡ false → T (not (isNan x))
-unfolding isNan
-is-number nan e = absurd (true≢false (sym nan-differs ∙ e))
-is-number (inf s) e = tt
-is-number (fin s m d) e = tt
 
 -- NaN as the code makes it
 pub zero-by-zero : div binary64 (ofBits binary64 0) (ofBits binary64 0) ≡ nan

@@ -4,7 +4,7 @@ use mathlib.Core.Bool.{true≢false}
 use lib.Ieee.{binary64, ofBits}
 use lib.Ieee.Bits.{ofBits-toBits}
 use borrow.Author.Tests.{eqb-true}
-use Rattle.square_root.proofs.SignBit.{is-number}
+use Rattle.answer.proofs.NotANumber.{is-number}
 use Rattle.equal_area.proofs.spherical_polygon.has_bits.Statement.{statement}
 use Rattle.equal_area.proofs.spherical_polygon.has_bits.Tie as tie
 

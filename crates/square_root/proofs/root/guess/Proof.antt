@@ -2,7 +2,7 @@
 use borrow.Author.Needs.{needs}
 use Prim.Native.Nat.{_-_, _/_}
 use native.Mathlib.Omega.{arith}
-use Rattle.square_root.proofs.SignBit.{is-number}
+use Rattle.answer.proofs.NotANumber.{is-number}
 use Rattle.square_root.proofs.Guess.{below-infinity}
 use Rattle.square_root.proofs.root.guess.Statement.{statement}
 use Rattle.square_root.proofs.root.guess.Tie as tie

@@ -9,7 +9,8 @@ use lib.Ieee.{binary64, fits, ofBits, toBits}
 use lib.Ieee.Bits.{ofBits-toBits, ofBits-fits}
 use Rattle.arithmetic.specs.Sqrt.{sqrt}
 use Rattle.arithmetic.proofs.Width.{scaled-half}
-use Rattle.square_root.proofs.SignBit.{is-nan, is-number, zero-by-zero, sign-bit}
+use Rattle.answer.proofs.NotANumber.{is-nan, is-number}
+use Rattle.square_root.proofs.SignBit.{zero-by-zero, sign-bit}
 use Rattle.square_root.proofs.RootBits.{at-top, below-zero, made-lt, made-number, made-root}
 use Rattle.square_root.proofs.root.sqrt.Statement.{statement}
 use Rattle.square_root.proofs.root.sqrt.Tie as tie

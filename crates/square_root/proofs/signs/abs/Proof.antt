@@ -3,7 +3,8 @@ use mathlib.Core.Path.{sym, ap, _∙_}
 use lib.Dec.{T}
 use lib.Ieee.{binary64, fits}
 use Rattle.square_root.specs.Signs.{abs}
-use Rattle.square_root.proofs.SignBit.{is-nan, is-number, cleared, cleared-number}
+use Rattle.answer.proofs.NotANumber.{is-nan, is-number}
+use Rattle.square_root.proofs.SignBit.{cleared, cleared-number}
 use Rattle.square_root.proofs.signs.abs.Statement.{statement}
 use Rattle.square_root.proofs.signs.abs.Tie as tie
 

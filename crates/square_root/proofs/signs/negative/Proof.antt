@@ -1,7 +1,8 @@
 -- `negative` meets its contract: a NaN has no sign, and any other value's is its pattern's first bit. Assumes nothing.
 use mathlib.Core.Path.{sym, ap}
 use Rattle.square_root.specs.Signs.{negative}
-use Rattle.square_root.proofs.SignBit.{is-nan, is-number, sign-bit}
+use Rattle.answer.proofs.NotANumber.{is-nan, is-number}
+use Rattle.square_root.proofs.SignBit.{sign-bit}
 use Rattle.square_root.proofs.signs.negative.Statement.{statement}
 use Rattle.square_root.proofs.signs.negative.Tie as tie
 
