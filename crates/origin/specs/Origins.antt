@@ -1,5 +1,5 @@
 -- core/origin.rs: generate_origins, and the table of its twelve origins as 84 numbers in final order. Definitions only.
-use Prim.Native.Nat.{ℕ, zero, suc, _+_, _*_, _%_}
+use Prim.Native.Nat.{ℕ, _+_, _*_, _%_}
 use mathlib.Core.Bool.{false}
 use mathlib.Core.List.{List, [], _∷_, _++_, map}
 use lib.ListN.{getD}
@@ -10,7 +10,6 @@ use Rattle.elementary.specs.Constants.{PI}
 use Rattle.coordinates.specs.CoordinateTransforms.{radians}
 use Rattle.origin.specs.Constants.{PI-OVER-5, TWO-PI-OVER-5, INTERHEDRAL-ANGLE}
 use Rattle.origin.specs.Quaternion.{QUATERNIONS}
-use Rattle.origin.specs.declared.utils.Quat.{Quat}
 use Rattle.origin.specs.declared.utils.Origin.{Origin}
 
 -- ---- an origin as the seven numbers of a table's row: axis theta, axis phi, quaternion x, y, z, w, and angle

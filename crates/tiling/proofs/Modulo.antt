@@ -1,7 +1,7 @@
 -- Whole numbers mod 10: the index lies in 0..9 for every gamma; ten more changes nothing; and the index of a value from its sign and its whole part, or what is left of
 -- it by 10. Assumes nothing.
 use mathlib.Core.Path.{_≡_, refl, sym, ap, _∙_, subst}
-use Prim.Native.Nat.{ℕ, zero, suc, _+_, _-_, _*_, _/_, _%_, _^_, _<_}
+use Prim.Native.Nat.{ℕ, zero, suc, _-_, _*_, _/_, _%_, _^_, _<_}
 use native.Mathlib.Nat.{mod-lt, lt-trans, div-lt-iff-lt-mul}
 use native.Mathlib.Omega.{arith}
 use mathlib.Core.Bool.{Bool, true, false, cond, false≢true, true≢false}

@@ -1,5 +1,5 @@
 -- `vector::normalize` meets its contract. Assumes nothing.
-use mathlib.Core.Path.{_≡_, refl, sym, ap, _∙_}
+use mathlib.Core.Path.{_≡_, sym, ap, _∙_}
 use mathlib.Core.Bool.{true, false}
 use lib.Ieee.{Float, binary64, ofBits, div, eq}
 use Rattle.arithmetic.specs.Arith.{ieee}
