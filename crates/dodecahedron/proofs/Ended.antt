@@ -1,14 +1,9 @@
--- How a call ends, by the way through the code: refused at its checks, in what it works out or at its final answer, or answered; and what checks that passed say of the set.
--- Assumes nothing.
+-- How a call ends, by the way through the code: refused at its checks, in what it works out or at its final answer, or answered. Assumes nothing.
 use mathlib.Core.Path.{_≡_, refl}
 use mathlib.Core.List.{List}
-use Prim.Native.Nat.{ℕ, _<_}
-use native.Mathlib.Omega.{arith}
-use borrow.Author.Tests.{ltb-false}
-use lib.Dec.{ltb}
+use Prim.Native.Nat.{ℕ}
 use lib.Ieee.{Float}
 use Rattle.answer.specs.Given.{Given, answered, refused, passed, andThen}
-use Rattle.answer.proofs.Given.{refuse-answered, then-answered}
 use Rattle.arithmetic.specs.Arith.{Arith}
 use Rattle.coordinates.specs.CoordinateTransforms.{fromLonLat, toLonLat}
 use Rattle.coordinates.specs.Conversions.{checkLonLat, checkSpherical, finiteSpherical, finiteLonLat}
@@ -16,20 +11,8 @@ use Rattle.coordinates.specs.declared.coords.Face.{Face}
 use Rattle.coordinates.specs.declared.lonlat.LonLat.{LonLat}
 use Rattle.coordinates.specs.declared.spherical.Spherical.{Spherical}
 use Rattle.origin.specs.Nearest.{nearestOrigin}
-use Rattle.set.specs.Sizes.{FRAME, FACE-STORE, SPHERE-STORE}
-use Rattle.set.specs.Set.{checkSet}
 use Rattle.set.specs.Checks.{checkBuffers, checkOrigin, checkFace, finiteFace}
 use Rattle.dodecahedron.specs.Calls.{Work, placed, finishWith, call, forwardCore, inverseCore, forwardGiven, inverseGiven, placeGiven, unplaceGiven}
-use Rattle.set.proofs.Lengths.{set-passed}
-
--- what the core's and the writer's `requires` ask
-pub set-fits : (a b c o : ℕ) → andThen (checkSet a b c) (checkOrigin o) ≡ passed → ((a ≡ FRAME) × (b ≡ FACE-STORE)) × ((c ≡ SPHERE-STORE) × (o < 12))
-unfolding checkOrigin
-set-fits a b c o e =
-    let p = then-answered (checkSet a b c) (checkOrigin o) tt e in
-    let l = set-passed a b c (p .0) in
-    let h = ltb-false 11 o (refuse-answered (ltb 11 o) 4 _ tt (p .1) .0) in
-    ((l .0, l .1), (l .2, omega (arith, h)))
 
 module _ {X Y : Type 0} (a b : Given (Unit {0})) (core : Given (Work X)) (f : X → Given Y) where
   abbrev whole : Given (Work Y)

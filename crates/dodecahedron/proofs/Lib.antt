@@ -1,4 +1,3 @@
 -- Laws behind the proofs of the functions.
-pub mod Runs
 pub mod Worked
 pub mod Ended

@@ -1,64 +1,105 @@
--- What forward and inverse work out, by the way through the code: the slots used, and the point from the triangles taken. Assumes nothing.
+-- What forward and inverse work out on a set that passes the checks, by the way through the code, and the slots that they use. Assumes nothing.
 use mathlib.Core.Path.{_≡_, refl, sym, ap, _∙_}
-use mathlib.Core.Bool.{Bool}
 use mathlib.Core.List.{List}
-use Prim.Native.Nat.{ℕ}
+use Prim.Native.Nat.{ℕ, _<_}
+use lib.ListN.{length}
 use lib.Ieee.{Float}
-use Rattle.answer.specs.Given.{Given, answered, refused, bind}
+use Rattle.answer.specs.Given.{Given, answered, refused, passed, andThen, bind}
+use Rattle.answer.proofs.Given.{bind-answered}
 use Rattle.arithmetic.specs.Arith.{Arith}
 use Rattle.coordinates.specs.CoordinateTransforms.{toPolar, toSpherical, toCartesian}
 use Rattle.coordinates.specs.Vector.{cross}
 use Rattle.coordinates.specs.declared.coords.Face.{Face}
-use Rattle.coordinates.specs.declared.coords.SphericalTriangle.{SphericalTriangle}
 use Rattle.coordinates.specs.declared.polar.Polar.{Polar}
 use Rattle.coordinates.specs.declared.spherical.Spherical.{Spherical}
 use Rattle.origin.specs.Origins.{originAt}
-use Rattle.tiling.specs.Index.{triangleIndex, shouldReflect}
 use Rattle.equal_area.specs.EqualArea.{forward, inverse}
-use Rattle.dodecahedron.specs.Triangles.{sourceSlot, sphereSlot, sphereTaken}
-use Rattle.dodecahedron.specs.Calls.{Work, frameConstants, polarAbout, faceFor, usedFor, forwardCore, inverseCore}
-use Rattle.dodecahedron.specs.declared.used.Used.{Used}
+use Rattle.set.specs.Sizes.{FACE-STORE, SPHERE-STORE}
+use Rattle.set.specs.Checks.{checkBuffers, checkOrigin}
+use Rattle.stores.specs.Used.{keepFaces, keepSphere, keptFaces, keptSphere}
+use Rattle.stores.specs.declared.used.Used.{Used}
+use Rattle.stores.proofs.Within.{faces-kept, sphere-kept}
+use Rattle.triangles.specs.Taken.{faceFor, usedFor, takenFor}
+use Rattle.triangles.specs.declared.taken.Taken.{Taken}
+use Rattle.triangles.proofs.Within.{answered-same, taken-is, used-within}
+use Rattle.dodecahedron.specs.Calls.{Work, frameConstants, polarAbout, forwardCore, inverseCore}
 
 module _ (A : Arith) (table frame face sphere : List Float) (o : ℕ) where
-  module _ (polar : Polar) (i : ℕ) (r : Bool) (ei : i ≡ triangleIndex A (polar .gamma)) (er : r ≡ shouldReflect A polar) where
-    -- the sphere triangle that is taken
-    abbrev taken : Given SphericalTriangle
-    taken = sphereTaken A frame face sphere (originAt table o) (sphereSlot o i r) (sourceSlot i r)
+  abbrev used : Polar → Given Used
+  used polar = usedFor A table frame face sphere o polar
 
-    abbrev then : SphericalTriangle → Given Used
-    then t = answered (record { origin = o; index = i; reflected = r; triangle = t })
+  abbrev taken : Polar → Given Taken
+  taken polar = takenFor A table frame face sphere o polar
 
-    used-is : usedFor A table frame face sphere o polar ≡ bind taken then
-    unfolding usedFor
-    used-is =
-        λ k.
-        bind (sphereTaken A frame face sphere (originAt table o) (sphereSlot o (sym ei k) (sym er k)) (sourceSlot (sym ei k) (sym er k))) λ t.
-        answered (record { origin = o; index = sym ei k; reflected = sym er k; triangle = t })
+  abbrev Passed : Type 0
+  Passed = andThen (checkBuffers frame face sphere) (checkOrigin o) ≡ passed
 
-    pub used-refused : (n : ℕ) → taken ≡ refused n → refused n ≡ usedFor A table frame face sphere o polar
-    used-refused n e = sym (used-is ∙ ap (λ (g : Given SphericalTriangle). bind g then) e)
+  abbrev with-face : Used → Taken
+  with-face u = record { used = u; face = faceFor A face u }
 
-    pub used-answered : (t : SphericalTriangle) → taken ≡ answered t → then t ≡ usedFor A table frame face sphere o polar
-    used-answered t e = sym (used-is ∙ ap (λ (g : Given SphericalTriangle). bind g then) e)
+  -- the slots used are among the stores', so they are written
+  abbrev Kept : Used → Type 0
+  Kept u = (keptFaces A face sphere u ≡ keepFaces A face (u .index) (u .reflected)) × (keptSphere face sphere u ≡ keepSphere sphere u)
+
+  used-kept : (polar : Polar) (u : Used) → length face ≡ FACE-STORE → length sphere ≡ SPHERE-STORE → o < 12 → used polar ≡ answered u → Kept u
+  used-kept polar u lf ls h e =
+      let w = used-within A table frame face sphere o polar u h e in
+      (faces-kept face sphere u lf ls (w .0) (w .1) A, sphere-kept face sphere u lf ls (w .0) (w .1))
+
+  -- what follows from the slots used and their face triangle follows from what is taken
+  through : {X : Type 0} (polar : Polar) (f : Taken → X) → Passed → bind (used polar) (λ u. answered (f (with-face u))) ≡ bind (taken polar) λ t. answered (f t)
+  through {X} polar f p = go (used polar) ∙ ap (λ (g : Given Taken). bind g λ t. answered (f t)) (sym (taken-is A table frame face sphere o polar p))
+    where
+      go : (g : Given Used) → bind g (λ u. answered (f (with-face u))) ≡ bind (bind g λ u. answered (with-face u)) λ t. answered (f t)
+      go (answered u) = refl
+      go (refused n) = refl
 
   module _ (s : Spherical) where
-    pub forward-refused : (n : ℕ) → usedFor A table frame face sphere o (polarAbout A (originAt table o) (toCartesian A s)) ≡ refused n → refused n ≡ forwardCore A table frame face sphere s o
-    unfolding forwardCore
-    forward-refused n e = rw e
+    abbrev about : Polar
+    about = polarAbout A (originAt table o) (toCartesian A s)
 
-    pub forward-done : (u : Used) → usedFor A table frame face sphere o (polarAbout A (originAt table o) (toCartesian A s)) ≡ answered u
-        → answered (record { answer = forward A (frameConstants A frame) (toCartesian A s) (u .triangle) (cross A (u .triangle .b) (u .triangle .c)) (faceFor A face u); used = u })
-        ≡ forwardCore A table frame face sphere s o
+    abbrev placed : Taken → Work Face
+    placed t =
+        record { answer = forward A (frameConstants A frame) (toCartesian A s) (t .used .triangle) (cross A (t .used .triangle .b) (t .used .triangle .c)) (t .face); used = t .used }
+
+    forward-through : Passed → forwardCore A table frame face sphere s o ≡ bind (taken about) λ t. answered (placed t)
     unfolding forwardCore
-    forward-done u e = rw e
+    forward-through p = through about placed p
+
+    pub forward-refused : (n : ℕ) → Passed → taken about ≡ refused n → refused n ≡ forwardCore A table frame face sphere s o
+    forward-refused n p e = sym (forward-through p ∙ ap (λ (g : Given Taken). bind g λ t. answered (placed t)) e)
+
+    pub forward-done : (t : Taken) → Passed → taken about ≡ answered t → answered (placed t) ≡ forwardCore A table frame face sphere s o
+    forward-done t p e = sym (forward-through p ∙ ap (λ (g : Given Taken). bind g λ u. answered (placed u)) e)
+
+    pub forward-used : (w : Work Face) → forwardCore A table frame face sphere s o ≡ answered w → used about ≡ answered (w .used)
+    unfolding forwardCore
+    forward-used w e =
+        let b = bind-answered (used about) _ w e in
+        b .1 ∙ ap (λ (x : Work Face). answered (x .used)) (answered-same (b .2))
+
+    pub forward-kept : (w : Work Face) → length face ≡ FACE-STORE → length sphere ≡ SPHERE-STORE → o < 12 → forwardCore A table frame face sphere s o ≡ answered w → Kept (w .used)
+    forward-kept w lf ls h e = used-kept about (w .used) lf ls h (forward-used w e)
 
   module _ (f : Face) where
-    pub inverse-refused : (n : ℕ) → usedFor A table frame face sphere o (toPolar A f) ≡ refused n → refused n ≡ inverseCore A table frame face sphere f o
-    unfolding inverseCore
-    inverse-refused n e = rw e
+    abbrev unplaced : Taken → Work Spherical
+    unplaced t = record { answer = toSpherical A (inverse A (frameConstants A frame) f (t .face) (t .used .triangle)); used = t .used }
 
-    pub inverse-done : (u : Used) → usedFor A table frame face sphere o (toPolar A f) ≡ answered u
-        → answered (record { answer = toSpherical A (inverse A (frameConstants A frame) f (faceFor A face u) (u .triangle)); used = u })
-        ≡ inverseCore A table frame face sphere f o
+    inverse-through : Passed → inverseCore A table frame face sphere f o ≡ bind (taken (toPolar A f)) λ t. answered (unplaced t)
     unfolding inverseCore
-    inverse-done u e = rw e
+    inverse-through p = through (toPolar A f) unplaced p
+
+    pub inverse-refused : (n : ℕ) → Passed → taken (toPolar A f) ≡ refused n → refused n ≡ inverseCore A table frame face sphere f o
+    inverse-refused n p e = sym (inverse-through p ∙ ap (λ (g : Given Taken). bind g λ t. answered (unplaced t)) e)
+
+    pub inverse-done : (t : Taken) → Passed → taken (toPolar A f) ≡ answered t → answered (unplaced t) ≡ inverseCore A table frame face sphere f o
+    inverse-done t p e = sym (inverse-through p ∙ ap (λ (g : Given Taken). bind g λ u. answered (unplaced u)) e)
+
+    pub inverse-used : (w : Work Spherical) → inverseCore A table frame face sphere f o ≡ answered w → used (toPolar A f) ≡ answered (w .used)
+    unfolding inverseCore
+    inverse-used w e =
+        let b = bind-answered (used (toPolar A f)) _ w e in
+        b .1 ∙ ap (λ (x : Work Spherical). answered (x .used)) (answered-same (b .2))
+
+    pub inverse-kept : (w : Work Spherical) → length face ≡ FACE-STORE → length sphere ≡ SPHERE-STORE → o < 12 → inverseCore A table frame face sphere f o ≡ answered w → Kept (w .used)
+    inverse-kept w lf ls h e = used-kept (toPolar A f) (w .used) lf ls h (inverse-used w e)

@@ -1,7 +1,6 @@
 -- Document 01, "Calls and their numbers" and "Triangles and calls": forward, inverse, place and unplace: what each gives, and what it leaves in the stores, for all contents of the
 -- buffers, over a table of origins (projections/dodecahedron.rs). Definitions only.
 use Prim.Native.Nat.{ℕ, _+_, _*_}
-use mathlib.Core.Bool.{Bool, true, false}
 use mathlib.Core.List.{List}
 use lib.ListN.{getD}
 use lib.Ieee.{Float, nan}
@@ -14,7 +13,6 @@ use Rattle.coordinates.specs.Gnomonic.{gnomonicForward}
 use Rattle.coordinates.specs.Vector.{cartesian, cross}
 use Rattle.coordinates.specs.declared.coords.Cartesian.{Cartesian}
 use Rattle.coordinates.specs.declared.coords.Face.{Face}
-use Rattle.coordinates.specs.declared.coords.FaceTriangle.{FaceTriangle}
 use Rattle.coordinates.specs.declared.lonlat.LonLat.{LonLat}
 use Rattle.coordinates.specs.declared.polar.Polar.{Polar}
 use Rattle.coordinates.specs.declared.spherical.Spherical.{Spherical}
@@ -22,17 +20,12 @@ use Rattle.origin.specs.Origins.{originAt}
 use Rattle.origin.specs.Nearest.{nearestOrigin}
 use Rattle.origin.specs.Quaternion.{quatConjugate, transformQuat}
 use Rattle.origin.specs.declared.utils.Origin.{Origin}
-use Rattle.tiling.specs.FaceTriangles.{faceTriangle}
-use Rattle.tiling.specs.Index.{triangleIndex, shouldReflect}
 use Rattle.equal_area.specs.EqualArea.{computeConstants, forward, inverse}
 use Rattle.equal_area.specs.declared.equal_area.TriangleConstants.{TriangleConstants}
-use Rattle.set.specs.Sizes.{FACE-WIDTH, SPHERE-WIDTH}
 use Rattle.set.specs.Checks.{checkBuffers, checkOrigin, checkFace, finiteFace}
-use Rattle.dodecahedron.specs.Slots.{keep, faceRun, sphereRun}
-use Rattle.dodecahedron.specs.Triangles.{faceSlot, sourceSlot, sphereSlot, faceTaken, sphereTaken}
-use Rattle.dodecahedron.specs.declared.used.Used.{Used}
-use Rattle.dodecahedron.specs.declared.used.UsedAnswer.{UsedAnswer}
-use Rattle.dodecahedron.specs.declared.used.UsedAnswer.the-variants as used-answer
+use Rattle.stores.specs.Used.{keepFaces, keepSphere}
+use Rattle.stores.specs.declared.used.Used.{Used}
+use Rattle.triangles.specs.Taken.{faceFor, usedFor}
 use Rattle.dodecahedron.specs.declared.used.FaceWork.{FaceWork}
 use Rattle.dodecahedron.specs.declared.used.FaceWork.the-variants as face-work
 use Rattle.dodecahedron.specs.declared.used.SphericalWork.{SphericalWork}
@@ -50,10 +43,6 @@ givenPlace (place-answer.Refused n) = refused (numberOf n)
 pub record Work (X : Type 0) : Type 0 where
   pub answer : X
   pub used : Used
-
-abbrev pub givenUsed : UsedAnswer → Given Used
-givenUsed (used-answer.Answered u) = answered u
-givenUsed (used-answer.Refused n) = refused (numberOf n)
 
 abbrev pub givenFaceWork : FaceWork → Given (Work Face)
 givenFaceWork (face-work.Done w) = answered (record { answer = w .answer; used = w .used })
@@ -73,24 +62,11 @@ abbrev pub usedOf : {X : Type 0} → Given (Work X) → Given Used
 usedOf (refused n) = refused n
 usedOf (answered w) = answered (w .used)
 
+-- "A refusal leaves every lent buffer bit for bit unchanged."
 module _ (A : Arith) where
-  -- "An unreflected call uses face slot i and its sphere slot; a reflected one uses 10+i, 20+i and its sphere slot." "Empty used slots are written on success": a face slot with
-  -- the triangle defined for it
-  unfoldable pub keepFace : List Float → ℕ → List Float
-  keepFace store k = keep FACE-WIDTH store k (faceRun (faceTriangle A k))
-
-  abbrev pub keepFaces : List Float → ℕ → Bool → List Float
-  keepFaces store i false = keepFace store i
-  keepFaces store i true = keepFace (keepFace store (faceSlot i true)) (sourceSlot i true)
-
-  -- "A refusal leaves every lent buffer bit for bit unchanged."
   abbrev pub faceAfter : List Float → Given Used → List Float
   faceAfter store (refused n) = store
-  faceAfter store (answered u) = keepFaces store (u .index) (u .reflected)
-
--- a sphere slot with the triangle that the call took
-unfoldable pub keepSphere : List Float → Used → List Float
-keepSphere store u = keep SPHERE-WIDTH store (sphereSlot (u .origin) (u .index) (u .reflected)) (sphereRun (u .triangle))
+  faceAfter store (answered u) = keepFaces A store (u .index) (u .reflected)
 
 abbrev pub sphereAfter : List Float → Given Used → List Float
 sphereAfter store (refused n) = store
@@ -125,32 +101,20 @@ module _ (A : Arith) where
       let polar = gnomonicForward A (toSpherical A (transformQuat A v (quatConjugate (o .quat)))) in
       record { rho = polar .rho; gamma = radians (polar .gamma .0 ⊖ o .angle .0) }
 
-  -- the face triangle of the point
-  unfoldable pub faceFor : List Float → Used → FaceTriangle
-  faceFor face u = faceTaken A face (faceSlot (u .index) (u .reflected))
-
 module _ (A : Arith) (table frame face sphere : List Float) where
   -- ---- what forward and inverse work out, without their checks
-
-  -- the sphere triangle taken for a polar point, with the slots used; 8 where a vertex has no row
-  unfoldable pub usedFor : ℕ → Polar → Given Used
-  usedFor o polar =
-      let i = triangleIndex A (polar .gamma) in
-      let r = shouldReflect A polar in
-      bind (sphereTaken A frame face sphere (originAt table o) (sphereSlot o i r) (sourceSlot i r)) λ t.
-      answered (record { origin = o; index = i; reflected = r; triangle = t })
 
   -- DodecahedronProjection::forward
   unfoldable pub forwardCore : Spherical → ℕ → Given (Work Face)
   forwardCore s o =
       let v = toCartesian A s in
-      bind (usedFor o (polarAbout A (originAt table o) v)) λ u.
+      bind (usedFor A table frame face sphere o (polarAbout A (originAt table o) v)) λ u.
       answered (record { answer = forward A (frameConstants A frame) v (u .triangle) (cross A (u .triangle .b) (u .triangle .c)) (faceFor A face u); used = u })
 
   -- DodecahedronProjection::inverse
   unfoldable pub inverseCore : Face → ℕ → Given (Work Spherical)
   inverseCore f o =
-      bind (usedFor o (toPolar A f)) λ u.
+      bind (usedFor A table frame face sphere o (toPolar A f)) λ u.
       answered (record { answer = toSpherical A (inverse A (frameConstants A frame) f (faceFor A face u) (u .triangle)); used = u })
 
   -- ---- the calls

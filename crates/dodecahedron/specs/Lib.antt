@@ -1,5 +1,2 @@
 -- The calls on a set: document 01, "Calls and their numbers" and "Triangles and calls". Definitions only.
-pub mod Slots
-pub mod Triangles
 pub mod Calls
-pub mod Fits

@@ -6,7 +6,6 @@ use crate::used::FaceWork;
 use crate::used::Place;
 use crate::used::PlaceAnswer;
 use crate::used::SphericalWork;
-use crate::used::Used;
 use answer::Check;
 use coordinates::conversions::LonLatAnswer;
 use coordinates::conversions::SphericalAnswer;
@@ -25,41 +24,13 @@ use set::checks::check_call;
 use set::checks::check_face;
 use set::checks::finite_face;
 use set::set::check_set;
+use stores::used::keep_used;
 ghost use mathlib.Core.Path.{_≡_};
-ghost use Prim.Native.Nat.{_<_};
-ghost use lib.ListN.{length};
 ghost use Rattle.arithmetic.specs.Arith.{ieee};
 ghost use Rattle.coordinates.specs.Conversions.{givenSpherical, givenLonLat};
 ghost use Rattle.origin.specs.Origins.{ORIGINS};
-ghost use Rattle.set.specs.Sizes.{FACE-STORE, SPHERE-STORE};
-ghost use Rattle.dodecahedron.specs.Fits.{UsedIn};
 ghost use Rattle.set.specs.Checks.{givenFace};
-ghost use Rattle.dodecahedron.specs.Calls.{placed, givenPlace, answerOf, usedOf, keepFaces, keepSphere, faceAfter, sphereAfter, forwardGiven, inverseGiven, placeGiven, unplaceGiven};
-
-// Writes the face slots that a call uses and that are empty.
-fn keep_faces(store: &mut [f64], index: usize, reflected: bool)
-    requires { ⌜ (index < 10) × (length (now store) ≡ FACE-STORE) ⌝ }
-    ensures { λ _. ⌜ now (store .exit) ≡ keepFaces ieee (now (store .entry)) index reflected ⌝ }
-{
-    if reflected {
-        crate::slots::keep_face(store, index + 10);
-        crate::slots::keep_face(store, index + 20);
-        return;
-    }
-    crate::slots::keep_face(store, index);
-}
-
-// Writes the slots that an answered call used and that are empty.
-fn keep_used(face_store: &mut [f64], sphere_store: &mut [f64], used: Used)
-    requires { ⌜ (length (now «face_store») ≡ FACE-STORE) × (length (now «sphere_store») ≡ SPHERE-STORE) ⌝ }
-    requires { ⌜ UsedIn used ⌝ }
-    ensures { λ _. ⌜ now («face_store» .exit) ≡ keepFaces ieee (now («face_store» .entry)) (used .index) (used .reflected) ⌝ }
-    ensures { λ _. ⌜ now («sphere_store» .exit) ≡ keepSphere (now («sphere_store» .entry)) used ⌝ }
-{
-    let slot = crate::triangles::sphere_slot(used.origin as usize, used.index, used.reflected);
-    keep_faces(face_store, used.index, used.reflected);
-    crate::slots::keep_sphere_slot(sphere_store, slot, used.triangle);
-}
+ghost use Rattle.dodecahedron.specs.Calls.{placed, givenPlace, answerOf, usedOf, faceAfter, sphereAfter, forwardGiven, inverseGiven, placeGiven, unplaceGiven};
 
 pub fn forward(
     frame: &[f64],

@@ -1,6 +1,4 @@
 // The calls on a set: a frame, a face store and a sphere store.
 pub mod calls;
 mod projection;
-mod slots;
-pub mod triangles;
 pub mod used;

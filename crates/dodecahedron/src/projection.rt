@@ -1,19 +1,15 @@
 // Forward and inverse on a set whose buffers have the right lengths, without the checks of the
 // calls. Nothing is written here.
-use crate::triangles::TriangleAnswer;
 use crate::used::FaceDone;
 use crate::used::FaceWork;
 use crate::used::SphericalDone;
 use crate::used::SphericalWork;
-use crate::used::Used;
-use crate::used::UsedAnswer;
 use coordinates::base::Radians;
 use coordinates::coordinate_transforms::to_cartesian;
 use coordinates::coordinate_transforms::to_polar;
 use coordinates::coordinate_transforms::to_spherical;
 use coordinates::coords::Cartesian;
 use coordinates::coords::Face;
-use coordinates::coords::FaceTriangle;
 use coordinates::coords::SphericalTriangle;
 use coordinates::polar::Polar;
 use coordinates::spherical::Spherical;
@@ -21,14 +17,15 @@ use coordinates::vec3::Vec3;
 use equal_area::equal_area::TriangleConstants;
 use origin::origin::get_origin;
 use origin::utils::Origin;
+use triangles::taken::TakenAnswer;
+use triangles::taken::take;
 ghost use mathlib.Core.Path.{_≡_};
 ghost use Prim.Native.Nat.{_+_, _*_, _<_, _≤_};
 ghost use lib.ListN.{length};
 ghost use Rattle.arithmetic.specs.Arith.{ieee};
 ghost use Rattle.origin.specs.Origins.{ORIGINS};
 ghost use Rattle.set.specs.Sizes.{FRAME, FACE-STORE, SPHERE-STORE};
-ghost use Rattle.dodecahedron.specs.Calls.{rowAt, frameConstants, polarAbout, faceFor, usedFor, forwardCore, inverseCore, givenUsed, givenFaceWork, givenSphericalWork};
-ghost use Rattle.dodecahedron.specs.Fits.{usedFits, faceWorkFits, sphericalWorkFits, UsedIn};
+ghost use Rattle.dodecahedron.specs.Calls.{rowAt, frameConstants, polarAbout, forwardCore, inverseCore, givenFaceWork, givenSphericalWork};
 
 fn row(frame: &[f64], k: usize) -> Cartesian
     requires { ⌜ k * 3 + 3 ≤ length (now frame) ⌝ }
@@ -66,50 +63,6 @@ fn polar_about(origin: Origin, v: Cartesian) -> Polar
     }
 }
 
-// The slots that a point uses, with its sphere triangle.
-fn used_for(
-    frame: &[f64],
-    face_store: &[f64],
-    sphere_store: &[f64],
-    origin: u8,
-    polar: Polar,
-) -> UsedAnswer
-    requires { ⌜ (length (now «face_store») ≡ FACE-STORE) × (length (now «sphere_store») ≡ SPHERE-STORE) ⌝ }
-    requires { ⌜ origin < 12 ⌝ }
-    ensures { λ r. ⌜ (givenUsed r ≡ usedFor ieee ORIGINS (now (frame .entry)) (now («face_store» .entry)) (now («sphere_store» .entry)) origin polar) × usedFits r ⌝ }
-{
-    let index = tiling::index::get_face_triangle_index(polar);
-    let reflected = tiling::index::should_reflect(polar);
-    let slot = crate::triangles::sphere_slot(origin as usize, index, reflected);
-    let source = crate::triangles::source_slot(index, reflected);
-    let taken = crate::triangles::take_sphere(
-        frame,
-        face_store,
-        sphere_store,
-        get_origin(origin),
-        slot,
-        source,
-    );
-    match taken {
-        TriangleAnswer::Refused(n) => UsedAnswer::Refused(n),
-        TriangleAnswer::Answered(triangle) => UsedAnswer::Answered(Used {
-            origin,
-            index,
-            reflected,
-            triangle,
-        }),
-    }
-}
-
-// The face triangle of the point.
-fn face_for(face_store: &[f64], used: Used) -> FaceTriangle
-    requires { ⌜ (length (now «face_store») ≡ FACE-STORE) × UsedIn used ⌝ }
-    ensures { λ r. ⌜ r ≡ faceFor ieee (now («face_store» .entry)) used ⌝ }
-{
-    let slot = crate::triangles::face_slot(used.index, used.reflected);
-    crate::triangles::take_face(face_store, slot)
-}
-
 pub(crate) fn forward_core(
     frame: &[f64],
     face_store: &[f64],
@@ -119,31 +72,27 @@ pub(crate) fn forward_core(
 ) -> FaceWork
     requires { ⌜ (length (now frame) ≡ FRAME) × (length (now «face_store») ≡ FACE-STORE) ⌝ }
     requires { ⌜ (length (now «sphere_store») ≡ SPHERE-STORE) × (origin < 12) ⌝ }
-    ensures { λ r. ⌜ (givenFaceWork r ≡ forwardCore ieee ORIGINS (now (frame .entry)) (now («face_store» .entry)) (now («sphere_store» .entry)) spherical origin) × faceWorkFits r ⌝ }
+    ensures { λ r. ⌜ givenFaceWork r ≡ forwardCore ieee ORIGINS (now (frame .entry)) (now («face_store» .entry)) (now («sphere_store» .entry)) spherical origin ⌝ }
 {
     let unprojected = to_cartesian(spherical);
     let polar = polar_about(get_origin(origin), unprojected);
-    let used = used_for(frame, face_store, sphere_store, origin, polar);
-    match used {
-        UsedAnswer::Refused(n) => FaceWork::Refused(n),
-        UsedAnswer::Answered(u) => {
-            let t = u.triangle;
+    match take(frame, face_store, sphere_store, origin, polar) {
+        TakenAnswer::Refused(n) => FaceWork::Refused(n),
+        TakenAnswer::Answered(taken) => {
+            let used = taken.used;
+            let t = used.triangle;
             let b = t.b;
             let c = t.c;
             let bxc = coordinates::vector::cross(b, c);
             let constants = frame_constants(frame);
-            let face_triangle = face_for(face_store, u);
-            let point = equal_area::equal_area::forward(
+            let answer = equal_area::equal_area::forward(
                 constants,
                 unprojected,
                 t,
                 bxc,
-                face_triangle,
+                taken.face,
             );
-            FaceWork::Done(FaceDone {
-                answer: point,
-                used: u,
-            })
+            FaceWork::Done(FaceDone { answer, used })
         }
     }
 }
@@ -157,21 +106,21 @@ pub(crate) fn inverse_core(
 ) -> SphericalWork
     requires { ⌜ (length (now frame) ≡ FRAME) × (length (now «face_store») ≡ FACE-STORE) ⌝ }
     requires { ⌜ (length (now «sphere_store») ≡ SPHERE-STORE) × (origin < 12) ⌝ }
-    ensures { λ r. ⌜ (givenSphericalWork r ≡ inverseCore ieee ORIGINS (now (frame .entry)) (now («face_store» .entry)) (now («sphere_store» .entry)) face origin) × sphericalWorkFits r ⌝ }
+    ensures { λ r. ⌜ givenSphericalWork r ≡ inverseCore ieee ORIGINS (now (frame .entry)) (now («face_store» .entry)) (now («sphere_store» .entry)) face origin ⌝ }
 {
-    let used = used_for(frame, face_store, sphere_store, origin, to_polar(face));
-    match used {
-        UsedAnswer::Refused(n) => SphericalWork::Refused(n),
-        UsedAnswer::Answered(u) => {
-            let t = u.triangle;
+    match take(frame, face_store, sphere_store, origin, to_polar(face)) {
+        TakenAnswer::Refused(n) => SphericalWork::Refused(n),
+        TakenAnswer::Answered(taken) => {
+            let used = taken.used;
             let constants = frame_constants(frame);
-            let face_triangle = face_for(face_store, u);
-            let unprojected = equal_area::equal_area::inverse(constants, face, face_triangle, t);
-            let position = to_spherical(unprojected);
-            SphericalWork::Done(SphericalDone {
-                answer: position,
-                used: u,
-            })
+            let unprojected = equal_area::equal_area::inverse(
+                constants,
+                face,
+                taken.face,
+                used.triangle,
+            );
+            let answer = to_spherical(unprojected);
+            SphericalWork::Done(SphericalDone { answer, used })
         }
     }
 }

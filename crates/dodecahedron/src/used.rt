@@ -1,22 +1,8 @@
-// Answers of the calls, and what a call uses of the set.
+// Answers of the calls, and what they work out before.
 use answer::Refusal;
 use coordinates::coords::Face;
-use coordinates::coords::SphericalTriangle;
 use coordinates::spherical::Spherical;
-
-// The slots that a call uses are told by origin, index and reflection; the sphere triangle is the
-// one that it took.
-pub struct Used {
-    pub origin: u8,
-    pub index: usize,
-    pub reflected: bool,
-    pub triangle: SphericalTriangle,
-}
-
-pub enum UsedAnswer {
-    Answered(Used),
-    Refused(Refusal),
-}
+use stores::used::Used;
 
 // What forward and inverse work out, before the final answer is looked at.
 pub struct FaceDone {

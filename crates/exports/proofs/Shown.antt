@@ -7,7 +7,7 @@ use Prim.Native.Nat.{ℕ}
 use lib.ListN.{getD}
 use lib.Ieee.{Float}
 use Rattle.answer.specs.Given.{answered}
-use Rattle.dodecahedron.specs.Slots.{run}
+use Rattle.stores.specs.Slots.{run}
 use Rattle.show.specs.Show.{named, slotGiven, partShown, placeIn, placeShown}
 use Rattle.show.specs.declared.StoreKind.{StoreKind}
 use Rattle.exports.specs.Slots.{partAfter}

@@ -17,11 +17,13 @@ use Rattle.origin.proofs.LowestNearest.{nearest-is}
 use Rattle.tiling.specs.Index.{triangleIndex, shouldReflect}
 use Rattle.tiling.proofs.Modulo.{index-below-10}
 use Rattle.equal_area.specs.EqualArea.{forward, inverse}
-use Rattle.dodecahedron.specs.Triangles.{faceSlot}
+use Rattle.stores.specs.Used.{faceSlot}
+use Rattle.set.proofs.Lengths.{set-fits}
 use Rattle.set.specs.Checks.{checkBuffers, checkOrigin, checkFace, finiteFace}
-use Rattle.dodecahedron.specs.Calls.{Work, answerOf, placed, call, frameConstants, polarAbout, faceFor, usedFor, forwardCore, inverseCore}
-use Rattle.dodecahedron.specs.declared.used.Used.{Used}
-use Rattle.dodecahedron.proofs.Ended.{set-fits, forward-is, inverse-is, place-is, unplace-is}
+use Rattle.triangles.specs.Taken.{faceFor, usedFor}
+use Rattle.dodecahedron.specs.Calls.{Work, answerOf, placed, call, frameConstants, polarAbout, forwardCore, inverseCore}
+use Rattle.stores.specs.declared.used.Used.{Used}
+use Rattle.dodecahedron.proofs.Ended.{forward-is, inverse-is, place-is, unplace-is}
 use Rattle.histories.specs.Lists.{Buffers, forwardOn, inverseOn, placeOn, unplaceOn}
 use Rattle.histories.specs.Since.{Since}
 use Rattle.histories.specs.EveryList.{SameAnswers}

@@ -18,14 +18,14 @@ use Rattle.origin.specs.Origins.{ORIGINS}
 use Rattle.tiling.specs.FaceTriangles.{faceTriangle}
 use Rattle.crs.specs.Frame.{frameRows}
 use Rattle.set.specs.Sizes.{FRAME, FACE-SLOTS, FACE-WIDTH, SPHERE-SLOTS, SPHERE-WIDTH}
-use Rattle.dodecahedron.specs.Slots.{filled, faceRun, sphereRun}
-use Rattle.dodecahedron.specs.Triangles.{faceSlot, sphereSlot}
+use Rattle.stores.specs.Slots.{filled, faceRun, sphereRun}
+use Rattle.stores.specs.Used.{faceSlot, sphereSlot}
 use Rattle.set.specs.Set.{checkSet}
 use Rattle.set.specs.Open.{openGiven}
 use Rattle.set.specs.Checks.{checkBuffers}
 use Rattle.dodecahedron.specs.Calls.{Work, usedOf}
 use Rattle.dodecahedron.specs.declared.used.Place.{Place}
-use Rattle.dodecahedron.specs.declared.used.Used.{Used}
+use Rattle.stores.specs.declared.used.Used.{Used}
 use Rattle.set.proofs.Opening.{open-opened}
 use Rattle.show.specs.declared.StoreKind.the-variants as kind
 use Rattle.histories.specs.Lists.{Buffers, Call, opens, places, unplaces, openOn, placeOn, unplaceOn, Effect, writes, uses, reads, effect, after, step, run}
@@ -33,7 +33,8 @@ use Rattle.histories.specs.Since.{Since, newly, facesAt, counted, since}
 use Rattle.histories.specs.Defined.{sphereDefined}
 use Rattle.histories.specs.EveryList.{opened, left, sinceOpen}
 use Rattle.histories.specs.Consequences.{count, filledSlots, isRefused}
-use Rattle.histories.proofs.Taken.{fresh, sphere-below}
+use Rattle.stores.proofs.Within.{sphere-below}
+use Rattle.histories.proofs.Taken.{fresh}
 use Rattle.histories.proofs.Uses.{UsedOn, Fits, effect-fits}
 use Rattle.histories.proofs.Counts.{count-same, count-one, count-faces}
 use Rattle.histories.proofs.Theorem.{every-list}

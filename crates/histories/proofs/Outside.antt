@@ -10,16 +10,17 @@ use borrow.Author.Tests.{eqb-false}
 use Rattle.answer.specs.Given.{Given, answered, refused}
 use Rattle.arithmetic.specs.Arith.{ieee}
 use Rattle.set.specs.Sizes.{FACE-SLOTS, FACE-WIDTH, FACE-STORE, SPHERE-WIDTH}
-use Rattle.dodecahedron.specs.Slots.{sphereRun}
-use Rattle.dodecahedron.specs.Triangles.{sphereSlot}
-use Rattle.dodecahedron.specs.Calls.{keepFace, keepFaces, keepSphere, faceAfter, sphereAfter}
-use Rattle.dodecahedron.specs.declared.used.Used.{Used}
+use Rattle.stores.specs.Slots.{sphereRun}
+use Rattle.stores.specs.Used.{sphereSlot, keepFace, keepFaces, keepSphere}
+use Rattle.dodecahedron.specs.Calls.{faceAfter, sphereAfter}
+use Rattle.stores.specs.declared.used.Used.{Used}
 use Rattle.histories.specs.Lists.{Buffers, Call, opens, forwards, inverses, places, unplaces, shows, asks, Effect, writes, uses, reads, effect}
 use Rattle.histories.specs.Since.{facesAt, facesOf, spheresOf}
 use Rattle.histories.specs.EveryList.{Untouched}
 use Rattle.histories.proofs.Runs.{other-place}
 use Rattle.histories.proofs.Stores.{keep-length, keep-outside}
-use Rattle.histories.proofs.Taken.{faceCoordinates, sphere-below}
+use Rattle.stores.proofs.Within.{sphere-below}
+use Rattle.histories.proofs.Taken.{faceCoordinates}
 use Rattle.histories.proofs.Uses.{Fits, effect-fits}
 
 neither : (a b : Bool) → (a || b) ≡ false → (a ≡ false) × (b ≡ false)

@@ -12,8 +12,8 @@ use Rattle.arithmetic.specs.Arith.{ieee}
 use Rattle.coordinates.specs.declared.coords.SphericalTriangle.{SphericalTriangle}
 use Rattle.tiling.specs.FaceTriangles.{faceTriangle}
 use Rattle.set.specs.Sizes.{FACE-SLOTS, FACE-WIDTH, FACE-STORE, SPHERE-SLOTS, SPHERE-WIDTH, SPHERE-STORE}
-use Rattle.dodecahedron.specs.Slots as slots
-use Rattle.dodecahedron.specs.Slots.{filled, faceRun, sphereRun}
+use Rattle.stores.specs.Slots as slots
+use Rattle.stores.specs.Slots.{filled, faceRun, sphereRun}
 use Rattle.show.specs.Show.{named, slotsIn, widthIn, slotGiven, whereFilled, partShown}
 use Rattle.show.specs.declared.StoreKind.{StoreKind}
 use Rattle.show.specs.declared.StoreKind.the-variants as kind

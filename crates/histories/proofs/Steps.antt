@@ -11,15 +11,15 @@ use Rattle.answer.specs.Given.{Given, answered, refused}
 use Rattle.arithmetic.specs.Arith.{ieee}
 use Rattle.coordinates.specs.declared.coords.SphericalTriangle.{SphericalTriangle}
 use Rattle.set.specs.Sizes.{FACE-SLOTS, FACE-WIDTH, FACE-STORE, SPHERE-SLOTS, SPHERE-WIDTH, SPHERE-STORE}
-use Rattle.dodecahedron.specs.Slots.{sphereRun, keep}
-use Rattle.dodecahedron.specs.Triangles.{sphereSlot}
-use Rattle.dodecahedron.specs.Calls.{keepFace, keepFaces, keepSphere}
-use Rattle.dodecahedron.specs.declared.used.Used.{Used}
+use Rattle.stores.specs.Slots.{sphereRun, keep}
+use Rattle.stores.specs.Used.{sphereSlot, keepFace, keepFaces, keepSphere}
+use Rattle.stores.specs.declared.used.Used.{Used}
 use Rattle.histories.specs.Lists.{Buffers, Call, Effect, writes, uses, reads, effect, after, step, run}
 use Rattle.histories.specs.Since.{Slots, Since, facesAt, counted, since}
 use Rattle.histories.specs.Defined.{sphereDefined}
 use Rattle.histories.proofs.Stores.{Holds, kept-long, kept-holds}
-use Rattle.histories.proofs.Taken.{Good, fresh-good, faceCoordinates, runOf, sphereCoordinates, sphere-below, sphere-taken}
+use Rattle.stores.proofs.Within.{sphere-below}
+use Rattle.histories.proofs.Taken.{Good, fresh-good, faceCoordinates, runOf, sphereCoordinates, sphere-taken}
 use Rattle.histories.proofs.Uses.{Fits, effect-fits}
 
 -- a face store, of which the slots u have been used

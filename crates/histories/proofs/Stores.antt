@@ -11,8 +11,8 @@ use lib.ListN.{length, getD, drop, replicate}
 use lib.Ieee.{Float, nan, eq, ofBits}
 use borrow.Author.Tests.{eq-eqb, ne-eqb}
 use Rattle.arithmetic.specs.Numbers.{0·0, 1·0}
-use Rattle.dodecahedron.specs.Slots.{run, put, filled, keep}
-use Rattle.dodecahedron.proofs.Runs.{length-put}
+use Rattle.stores.specs.Slots.{run, put, filled, keep}
+use Rattle.stores.proofs.Runs.{length-put}
 use Rattle.histories.specs.Since.{Slots}
 use Rattle.histories.specs.Defined.{slotAt}
 use Rattle.histories.proofs.Runs.{Outside, put-outside, getD-beyond, getD-run, run-same, run-put, run-tail, other-slot}

@@ -17,8 +17,10 @@ use Rattle.origin.specs.Origins.{ORIGINS, originAt}
 use Rattle.tiling.specs.FaceTriangles.{faceTriangle}
 use Rattle.crs.specs.Frame.{frameRows}
 use Rattle.set.specs.Sizes.{FACE-SLOTS, FACE-WIDTH, FACE-STORE, SPHERE-SLOTS, SPHERE-WIDTH, SPHERE-STORE}
-use Rattle.dodecahedron.specs.Slots.{run, filled, faceRun, faceIn, sphereRun, sphereIn}
-use Rattle.dodecahedron.specs.Triangles.{sourceSlot, sphereSlot, faceTaken, sphereBuilt, sphereTaken}
+use Rattle.stores.specs.Slots.{run, filled, faceRun, faceIn, sphereRun, sphereIn}
+use Rattle.stores.specs.Used.{sourceSlot, sphereSlot}
+use Rattle.stores.proofs.Within.{sphere-below}
+use Rattle.triangles.specs.Triangles.{faceTaken, sphereBuilt, sphereTaken}
 use Rattle.histories.specs.Lists.{Buffers}
 use Rattle.histories.specs.Since.{Since, newly}
 use Rattle.histories.specs.Defined.{sphereDefined, slotAt}
@@ -68,10 +70,6 @@ fresh-good =
 pub source-below : (i : ℕ) (r : Bool) → i < 10 → sourceSlot i r < FACE-SLOTS
 source-below i true h = omega arith
 source-below i false h = omega arith
-
-pub sphere-below : (o i : ℕ) (r : Bool) → o < 12 → i < 10 → sphereSlot o i r < SPHERE-SLOTS
-sphere-below o i true g h = omega arith
-sphere-below o i false g h = omega arith
 
 -- a sphere slot's number tells its origin, its index and whether it is reflected
 pub slot-defined : (frame : List Float) (o i : ℕ) (r : Bool) → o < 12 → i < 10

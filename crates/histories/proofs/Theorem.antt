@@ -10,7 +10,7 @@ use Rattle.answer.specs.Given.{Given, answered, refused, passed}
 use Rattle.arithmetic.specs.Numbers.{1·0}
 use Rattle.coordinates.specs.declared.coords.SphericalTriangle.{SphericalTriangle}
 use Rattle.set.specs.Sizes.{FACE-WIDTH, SPHERE-WIDTH}
-use Rattle.dodecahedron.specs.Slots.{sphereRun}
+use Rattle.stores.specs.Slots.{sphereRun}
 use Rattle.histories.specs.Lists.{Buffers, openOn}
 use Rattle.histories.specs.Since.{newly}
 use Rattle.histories.specs.Defined.{slotAt}

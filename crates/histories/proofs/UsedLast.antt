@@ -6,7 +6,7 @@ use mathlib.Core.Bool.{Bool, true, false, cond, _||_, or-true, or-false, false�
 use mathlib.Core.List.{List, [], _∷_}
 use Prim.Native.Nat.{ℕ}
 use Rattle.answer.specs.Given.{Given, answered, refused}
-use Rattle.dodecahedron.specs.declared.used.Used.{Used}
+use Rattle.stores.specs.declared.used.Used.{Used}
 use Rattle.histories.specs.Lists.{Buffers, Call, Effect, writes, uses, reads, effect, step}
 use Rattle.histories.specs.Since.{Slots, facesOf, spheresOf, usedBy, facesUsed, spheresUsed, Since, newly, counted, since}
 use Rattle.histories.specs.EveryList.{opened, sinceOpen}

@@ -17,12 +17,16 @@ use Rattle.origin.proofs.LowestNearest.{nearest-is}
 use Rattle.tiling.specs.Index.{triangleIndex, shouldReflect}
 use Rattle.tiling.proofs.Modulo.{index-below-10}
 use Rattle.set.specs.Sizes.{FACE-STORE, SPHERE-STORE}
-use Rattle.dodecahedron.specs.Triangles.{sourceSlot, sphereSlot, sphereTaken}
+use Rattle.stores.specs.Used.{sourceSlot, sphereSlot}
+use Rattle.triangles.specs.Triangles.{sphereTaken}
 use Rattle.set.specs.Checks.{checkBuffers, checkOrigin, checkFace, finiteFace}
-use Rattle.dodecahedron.specs.Calls.{Work, usedOf, placed, finishWith, call, polarAbout, usedFor, forwardCore, inverseCore}
-use Rattle.dodecahedron.specs.declared.used.Used.{Used}
-use Rattle.set.proofs.Lengths.{set-passed}
-use Rattle.dodecahedron.proofs.Ended.{set-fits, forward-is, inverse-is, place-is, unplace-is}
+use Rattle.triangles.specs.Taken.{usedFor}
+use Rattle.triangles.proofs.Within.{answered-same}
+use Rattle.dodecahedron.specs.Calls.{Work, usedOf, placed, finishWith, call, polarAbout, forwardCore, inverseCore}
+use Rattle.stores.specs.declared.used.Used.{Used}
+use Rattle.set.proofs.Lengths.{set-passed, set-fits}
+use Rattle.dodecahedron.proofs.Worked.{forward-used, inverse-used}
+use Rattle.dodecahedron.proofs.Ended.{forward-is, inverse-is, place-is, unplace-is}
 use Rattle.histories.specs.Lists.{Buffers, Call, opens, forwards, inverses, places, unplaces, shows, asks, Effect, writes, uses, reads, effect}
 
 pub record UsedOn (s : Buffers) (u : Used) : Type 0 where
@@ -40,9 +44,6 @@ Fits s reads = Unit {0}
 
 -- ---- from a call's answer back to its core
 
-pub answered-same : {A : Type 0} {a b : A} → answered a ≡ answered b → a ≡ b
-answered-same {a = a} e = ap (λ (g : Given _). elim g [ answered x ↦ x | refused n ↦ a ]) e
-
 -- the checks passed, and the core worked out what is used
 call-used : {X Y : Type 0} (check : Given (Unit {0})) (core : Given (Work X)) (f : X → Given Y) (u : Used) → usedOf (call check core f) ≡ answered u
     → (check ≡ passed) × ((w : Work X) × (core ≡ answered w) × (w .used ≡ u))
@@ -59,19 +60,6 @@ module _ (s : Buffers) (o : ℕ) where
   -- the sphere triangle taken for a polar point, with the slots used
   abbrev used : Polar → Given Used
   used polar = usedFor ieee ORIGINS (s .frame) (s .face) (s .sphere) o polar
-
-  forward-used : (p : Spherical) (w : Work Face) → forwardCore ieee ORIGINS (s .frame) (s .face) (s .sphere) p o ≡ answered w
-      → used (polarAbout ieee (originAt ORIGINS o) (toCartesian ieee p)) ≡ answered (w .used)
-  unfolding forwardCore
-  forward-used p w e =
-      let b = bind-answered (used (polarAbout ieee (originAt ORIGINS o) (toCartesian ieee p))) _ w e in
-      b .1 ∙ ap (λ (x : Work Face). answered (x .used)) (answered-same (b .2))
-
-  inverse-used : (f : Face) (w : Work Spherical) → inverseCore ieee ORIGINS (s .frame) (s .face) (s .sphere) f o ≡ answered w → used (toPolar ieee f) ≡ answered (w .used)
-  unfolding inverseCore
-  inverse-used f w e =
-      let b = bind-answered (used (toPolar ieee f)) _ w e in
-      b .1 ∙ ap (λ (x : Work Spherical). answered (x .used)) (answered-same (b .2))
 
   used-on : (polar : Polar) (u : Used) → length (s .face) ≡ FACE-STORE → length (s .sphere) ≡ SPHERE-STORE → o < 12 → used polar ≡ answered u → UsedOn s u
   unfolding usedFor
@@ -106,16 +94,16 @@ module _ (s : Buffers) (o : ℕ) where
 pub effect-fits : (s : Buffers) (c : Call) → Fits s (effect s c)
 effect-fits s opens = tt
 effect-fits s (forwards p o) = λ u e.
-    call-fits s o _ _ finiteFace _ (origin-told s o (checkSpherical p)) (forward-used s o p) u (ap usedOf (sym (forward-is ieee ORIGINS (s .frame) (s .face) (s .sphere) o p)) ∙ e)
+    call-fits s o _ _ finiteFace _ (origin-told s o (checkSpherical p)) (forward-used ieee ORIGINS (s .frame) (s .face) (s .sphere) o p) u (ap usedOf (sym (forward-is ieee ORIGINS (s .frame) (s .face) (s .sphere) o p)) ∙ e)
 effect-fits s (inverses f o) = λ u e.
-    call-fits s o _ _ finiteSpherical _ (origin-told s o (checkFace f)) (inverse-used s o f) u (ap usedOf (sym (inverse-is ieee ORIGINS (s .frame) (s .face) (s .sphere) o f)) ∙ e)
+    call-fits s o _ _ finiteSpherical _ (origin-told s o (checkFace f)) (inverse-used ieee ORIGINS (s .frame) (s .face) (s .sphere) o f) u (ap usedOf (sym (inverse-is ieee ORIGINS (s .frame) (s .face) (s .sphere) o f)) ∙ e)
 effect-fits s (places p) = λ u e.
     let q = fromLonLat ieee p in
     let o = nearestOrigin ieee ORIGINS q in
-    call-fits s o _ _ (placed o) _ (nearest-told s o (checkLonLat p) (nearest-is ieee ORIGINS q .origin)) (forward-used s o q) u
+    call-fits s o _ _ (placed o) _ (nearest-told s o (checkLonLat p) (nearest-is ieee ORIGINS q .origin)) (forward-used ieee ORIGINS (s .frame) (s .face) (s .sphere) o q) u
     (ap usedOf (sym (place-is ieee ORIGINS (s .frame) (s .face) (s .sphere) o p q refl refl)) ∙ e)
 effect-fits s (unplaces f o) = λ u e.
-    call-fits s o _ _ (λ q. finiteLonLat (toLonLat ieee q)) _ (origin-told s o (checkFace f)) (inverse-used s o f) u
+    call-fits s o _ _ (λ q. finiteLonLat (toLonLat ieee q)) _ (origin-told s o (checkFace f)) (inverse-used ieee ORIGINS (s .frame) (s .face) (s .sphere) o f) u
     (ap usedOf (sym (unplace-is ieee ORIGINS (s .frame) (s .face) (s .sphere) o f)) ∙ e)
 effect-fits s (shows kind k) = tt
 effect-fits s (asks kind k) = tt

@@ -5,7 +5,7 @@ use mathlib.Core.Bool.{Bool, true, false, cond}
 use mathlib.Core.List.{List, [], _∷_}
 use Rattle.answer.specs.Given.{answered, refused}
 use Rattle.set.specs.Sizes.{FACE-SLOTS, FACE-WIDTH, SPHERE-SLOTS, SPHERE-WIDTH}
-use Rattle.dodecahedron.specs.Slots.{filled}
+use Rattle.stores.specs.Slots.{filled}
 use Rattle.histories.specs.Lists.{Buffers, Call, Effect, writes, uses, reads, effect, step}
 use Rattle.histories.specs.Since.{Slots}
 

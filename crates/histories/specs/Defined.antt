@@ -10,8 +10,9 @@ use Rattle.arithmetic.specs.Arith.{ieee}
 use Rattle.coordinates.specs.declared.coords.SphericalTriangle.{SphericalTriangle}
 use Rattle.origin.specs.Origins.{ORIGINS, originAt}
 use Rattle.tiling.specs.FaceTriangles.{faceTriangle}
-use Rattle.dodecahedron.specs.Slots as slots
-use Rattle.dodecahedron.specs.Triangles.{sourceSlot, sphereBuilt}
+use Rattle.stores.specs.Slots as slots
+use Rattle.stores.specs.Used.{sourceSlot}
+use Rattle.triangles.specs.Triangles.{sphereBuilt}
 
 -- sphere slot k, which is 10·origin + index, plus 120 if reflected; refused with 8 where a vertex has no row in the frame
 unfoldable pub sphereDefined : List Float → ℕ → Given SphericalTriangle

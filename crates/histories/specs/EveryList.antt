@@ -14,7 +14,7 @@ use Rattle.coordinates.specs.declared.lonlat.LonLat.{LonLat}
 use Rattle.coordinates.specs.declared.spherical.Spherical.{Spherical}
 use Rattle.tiling.specs.FaceTriangles.{faceTriangle}
 use Rattle.set.specs.Sizes.{FACE-SLOTS, FACE-WIDTH, FACE-STORE, SPHERE-SLOTS, SPHERE-WIDTH, SPHERE-STORE}
-use Rattle.dodecahedron.specs.Slots.{filled, faceRun, sphereRun}
+use Rattle.stores.specs.Slots.{filled, faceRun, sphereRun}
 use Rattle.dodecahedron.specs.Calls.{answerOf}
 use Rattle.show.specs.declared.StoreKind.{StoreKind}
 use Rattle.histories.specs.Lists.{Buffers, Call, opens, shows, asks, openOn, forwardOn, inverseOn, placeOn, unplaceOn, Effect, effect, after, step, run}

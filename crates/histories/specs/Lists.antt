@@ -13,7 +13,7 @@ use Rattle.set.specs.Sizes.{FACE-STORE, SPHERE-STORE}
 use Rattle.set.specs.Open.{openGiven, frameAfter, clearedAfter}
 use Rattle.dodecahedron.specs.Calls.{Work, usedOf, faceAfter, sphereAfter, forwardGiven, inverseGiven, placeGiven, unplaceGiven}
 use Rattle.dodecahedron.specs.declared.used.Place.{Place}
-use Rattle.dodecahedron.specs.declared.used.Used.{Used}
+use Rattle.stores.specs.declared.used.Used.{Used}
 use Rattle.show.specs.declared.StoreKind.{StoreKind}
 
 -- the three lent buffers, of any lengths and with any contents

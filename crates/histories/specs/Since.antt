@@ -6,8 +6,8 @@ use mathlib.Core.List.{List, [], _∷_}
 use lib.Dec.{eqb}
 use lib.Ieee.{Float}
 use Rattle.answer.specs.Given.{Given, answered, refused}
-use Rattle.dodecahedron.specs.Triangles.{faceSlot, sourceSlot, sphereSlot}
-use Rattle.dodecahedron.specs.declared.used.Used.{Used}
+use Rattle.stores.specs.Used.{faceSlot, sourceSlot, sphereSlot}
+use Rattle.stores.specs.declared.used.Used.{Used}
 use Rattle.histories.specs.Lists.{Buffers, Call, Effect, writes, uses, reads, effect, step}
 
 -- some slots of a store, by their numbers

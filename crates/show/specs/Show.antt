@@ -9,7 +9,7 @@ use lib.Ieee.{Float}
 use Rattle.answer.specs.Given.{Given, answered, refused, refuseIf}
 use Rattle.answer.specs.Answer.{numberOf}
 use Rattle.set.specs.Sizes.{FACE-SLOTS, FACE-WIDTH, FACE-STORE, SPHERE-SLOTS, SPHERE-WIDTH, SPHERE-STORE}
-use Rattle.dodecahedron.specs.Slots.{run, filled}
+use Rattle.stores.specs.Slots.{run, filled}
 use Rattle.show.specs.declared.StoreKind.{StoreKind}
 use Rattle.show.specs.declared.StoreKind.the-variants as kind
 use Rattle.show.specs.declared.SlotState.{SlotState}

@@ -11,7 +11,7 @@ ghost use Prim.Native.Nat.{_+_, _-_, _<_, _≤_};
 ghost use lib.ListN.{length};
 ghost use denote.Ref.{ptr};
 ghost use Rattle.answer.specs.Given.{answered};
-ghost use Rattle.dodecahedron.specs.Slots.{run, filled};
+ghost use Rattle.stores.specs.Slots.{run, filled};
 ghost use Rattle.show.specs.Show.{givenState, slotGiven, partShown, placeShown, placeIn};
 
 pub enum StoreKind {

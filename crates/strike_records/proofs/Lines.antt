@@ -13,7 +13,7 @@ use lib.ListN.{length, take, drop, length-append, length-drop}
 use lib.Seq.{take-all}
 use Rattle.answer.specs.Given.{Given, answered, refused}
 use Rattle.arithmetic.specs.Arith.{Arith}
-use Rattle.dodecahedron.specs.Slots.{put}
+use Rattle.stores.specs.Slots.{put}
 use Rattle.dodecahedron.specs.Calls.{answerOf, placeGiven, unplaceGiven}
 use Rattle.coordinates.specs.declared.lonlat.LonLat.{LonLat}
 use Rattle.dodecahedron.specs.declared.used.Place.{Place}

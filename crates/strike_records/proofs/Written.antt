@@ -8,7 +8,7 @@ use native.Mathlib.Omega.{arith}
 use lib.Dec.{ltb}
 use lib.ListN.{length, take, drop, set, length-append}
 use lib.Seq.{take-at, drop-at, drop-drop, length-take-le, sets, sets-eq}
-use Rattle.dodecahedron.specs.Slots.{put}
+use Rattle.stores.specs.Slots.{put}
 use Rattle.strike_records.specs.Line.{hex, decimal}
 
 module _ {A : Type 0} where

@@ -4,7 +4,7 @@ use mathlib.Core.Path.{_≡_}
 use mathlib.Core.List.{List}
 use lib.Ieee.{Float}
 use lib.ListN.{length}
-use Rattle.dodecahedron.specs.Slots.{put}
+use Rattle.stores.specs.Slots.{put}
 use Rattle.strike_records.specs.Session.{Set}
 use Rattle.strike_records.specs.Pieces.{Fed, leftOver}
 use Rattle.strike_records.specs.declared.session.Fed as declared

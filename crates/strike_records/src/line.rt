@@ -7,7 +7,7 @@ ghost use mathlib.Core.Path.{_≡_};
 ghost use mathlib.Core.List.{_∷_};
 ghost use Prim.Native.Nat.{_+_, _≤_, _<_};
 ghost use lib.ListN.{length};
-ghost use Rattle.dodecahedron.specs.Slots.{put};
+ghost use Rattle.stores.specs.Slots.{put};
 ghost use Rattle.strike_records.specs.Line.{SPACE, LINE, digit as Line·digit, hex, decimal, bitsOf, placeLine, lonLatLine, refusalLine};
 
 // Room for any line.

@@ -11,7 +11,7 @@ ghost use Prim.Native.Nat.{_≤_, min};
 ghost use lib.ListN.{length, take};
 ghost use Rattle.arithmetic.specs.Arith.{ieee};
 ghost use Rattle.origin.specs.Origins.{ORIGINS};
-ghost use Rattle.dodecahedron.specs.Slots.{put};
+ghost use Rattle.stores.specs.Slots.{put};
 ghost use Rattle.set.specs.Open.{openGiven};
 ghost use Rattle.strike_records.specs.Line.{refusalLine};
 ghost use Rattle.strike_records.specs.Session.{setOf, opened};

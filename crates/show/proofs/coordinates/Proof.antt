@@ -1,7 +1,7 @@
 -- `coordinates` meets its contract. Assumes nothing.
 use mathlib.Core.Path.{refl}
 use borrow.Author.Needs.{needs}
-use Rattle.dodecahedron.proofs.Runs.{gap}
+use Rattle.stores.proofs.Runs.{gap}
 use Rattle.show.proofs.coordinates.Statement.{statement}
 use Rattle.show.proofs.coordinates.Tie as tie
 

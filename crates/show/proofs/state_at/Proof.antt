@@ -3,7 +3,7 @@ use mathlib.Core.Path.{ap, sym}
 use borrow.Author.Needs.{needs}
 use lib.Ieee.{ofBits}
 use Rattle.answer.specs.Given.{answered}
-use Rattle.dodecahedron.specs.Slots.{filled}
+use Rattle.stores.specs.Slots.{filled}
 use Rattle.show.proofs.state_at.Statement.{statement}
 use Rattle.show.proofs.state_at.Tie as tie
 

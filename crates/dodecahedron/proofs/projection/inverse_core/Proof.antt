@@ -1,34 +1,28 @@
 -- `projection::inverse_core` meets its contract. Assumes nothing.
-use mathlib.Core.Path.{sym, ap, _∙_, subst}
+use mathlib.Core.Path.{sym, ap, _∙_}
 use borrow.Author.Needs.{needs}
 use Rattle.arithmetic.specs.Arith.{ieee}
 use Rattle.origin.specs.Origins.{ORIGINS}
-use Rattle.dodecahedron.specs.Calls.{givenUsed}
-use Rattle.dodecahedron.specs.Fits.{usedFits}
+use Rattle.set.proofs.Lengths.{fits-set}
+use Rattle.triangles.specs.Taken.{givenTaken}
 use Rattle.dodecahedron.proofs.Worked.{inverse-refused, inverse-done}
 use Rattle.dodecahedron.proofs.projection.inverse_core.Statement.{statement}
 use Rattle.dodecahedron.proofs.projection.inverse_core.Tie as tie
 
-frame-constants-requires : tie.Need-frame-constants-requires
-frame-constants-requires c κs = c .before .before .before .before .before .before .before .before .before .pre .0 .0
-
-face-for-requires : tie.Need-face-for-requires
-face-for-requires c κs = (c .before .before .before .before .before .before .before .before .before .before .pre .0 .1, subst usedFits (c .before .before .before .used2 .given .1) (c .before .before .before .before .before .used-for .ensures .1))
-
 returns : tie.Need-returns
 returns c =
     let a = c .before .before .before .before .before .before .before .before .args in
-    let e = rw (c .before .before .before .before .to-polar .ensures) at (c .before .before .before .used-for .ensures .0) in
-    (inverse-refused ieee ORIGINS (a .frame .now) (a .face-store .now) (a .sphere-store .now) (a .origin) (a .face) _ (sym e ∙ ap givenUsed (c .before .used .given .1)), tt)
+    let h = c .before .before .before .before .before .before .before .before .pre in
+    let e = rw (c .before .before .before .before .to-polar .ensures) at (c .before .before .before .take .ensures) in
+    inverse-refused ieee ORIGINS (a .frame .now) (a .face-store .now) (a .sphere-store .now) (a .origin) (a .face) _ (fits-set _ _ _ _ (h .0 .0) (h .0 .1) (h .1 .0) (h .1 .1)) (sym e ∙ ap givenTaken (c .before .n .given .1))
 
 returns-2 : tie.Need-returns-2
 returns-2 c =
-    let a = c .before .before .before .before .before .before .before .before .before .before .before .before .before .args in
-    let e = rw (c .before .before .before .before .before .before .before .before .before .to-polar .ensures) at (c .before .before .before .before .before .before .before .before .used-for .ensures .0) in (
-      rw (c .to-spherical .ensures, c .before .inverse .ensures, c .before .before .face-for .ensures, c .before .before .before .frame-constants .ensures)
-          (inverse-done ieee ORIGINS (a .frame .now) (a .face-store .now) (a .sphere-store .now) (a .origin) (a .face) _ (sym e ∙ ap givenUsed (c .before .before .before .before .before .before .used2 .given .1))),
-      subst usedFits (c .before .before .before .before .before .before .used2 .given .1) (c .before .before .before .before .before .before .before .before .used-for .ensures .1),
-    )
+    let a = c .before .before .before .before .before .before .before .before .before .before .before .before .args in
+    let h = c .before .before .before .before .before .before .before .before .before .before .before .before .pre in
+    let e = rw (c .before .before .before .before .before .before .before .before .to-polar .ensures) at (c .before .before .before .before .before .before .before .take .ensures) in
+    rw (c .to-spherical .ensures, c .before .inverse .ensures, c .before .before .frame-constants .ensures)
+    (inverse-done ieee ORIGINS (a .frame .now) (a .face-store .now) (a .sphere-store .now) (a .origin) (a .face) _ (fits-set _ _ _ _ (h .0 .0) (h .0 .1) (h .1 .0) (h .1 .1)) (sym e ∙ ap givenTaken (c .before .before .before .before .before .taken .given .1)))
 
 pub inverse-core-spec : {M : Type 1} → statement M
-inverse-core-spec = tie.close (tie.spec (λ c κs. tt) (λ c κs. search needs) (λ c. search needs) (λ c. search needs) frame-constants-requires face-for-requires (λ c κs. tt) (λ c κs. tt) returns returns-2)
+inverse-core-spec = tie.close (tie.spec (λ c κs. tt) (λ c κs. search needs) (λ c. search needs) (λ c. search needs) (λ c κs. search needs) (λ c κs. tt) (λ c κs. tt) returns returns-2)

@@ -6,7 +6,7 @@ use borrow.Author.Needs.{needs}
 use lib.ListN.{length, length-take, length-drop}
 use Rattle.arithmetic.specs.Arith.{ieee}
 use Rattle.origin.specs.Origins.{ORIGINS}
-use Rattle.dodecahedron.specs.Slots.{put}
+use Rattle.stores.specs.Slots.{put}
 use Rattle.strike_records.specs.Session.{setOf}
 use Rattle.strike_records.specs.Pieces.{linesOf, setAfter}
 use Rattle.strike_records.specs.Results.{Answered}

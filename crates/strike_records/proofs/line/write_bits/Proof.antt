@@ -6,7 +6,7 @@ use native.Mathlib.Omega.{arith}
 use borrow.Author.Needs.{needs}
 use lib.Ieee.{binary64, toBits}
 use lib.ListN.{length}
-use Rattle.dodecahedron.proofs.Runs.{put-marked, length-put}
+use Rattle.stores.proofs.Runs.{put-marked, length-put}
 use Rattle.strike_records.specs.Line.{SPACE, hex, bitsOf}
 use Rattle.strike_records.proofs.Written.{length-hex}
 use Rattle.strike_records.proofs.line.write_bits.Statement.{statement}

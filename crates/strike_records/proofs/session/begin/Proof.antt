@@ -4,7 +4,7 @@ use Prim.Native.Nat.{zero-le}
 use borrow.Author.Needs.{needs}
 use lib.ListN.{length}
 use Rattle.answer.specs.Given.{Given}
-use Rattle.dodecahedron.specs.Slots.{put}
+use Rattle.stores.specs.Slots.{put}
 use Rattle.set.specs.Open.{givenOpen}
 use Rattle.strike_records.specs.Pieces.{fitting, beginStage, beginLine}
 use Rattle.strike_records.proofs.Lines.{nothing-fits}

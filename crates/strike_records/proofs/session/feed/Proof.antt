@@ -5,7 +5,7 @@ use borrow.Author.Needs.{needs}
 use lib.ListN.{length}
 use Rattle.arithmetic.specs.Arith.{ieee}
 use Rattle.origin.specs.Origins.{ORIGINS}
-use Rattle.dodecahedron.specs.Slots.{put}
+use Rattle.stores.specs.Slots.{put}
 use Rattle.strike_records.specs.Session.{setOf}
 use Rattle.strike_records.specs.Pieces.{fed}
 use Rattle.strike_records.specs.declared.session.Stage.the-variants.{Header, Records}

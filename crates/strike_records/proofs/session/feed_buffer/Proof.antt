@@ -4,7 +4,7 @@ use Prim.Native.Nat.{ℕ}
 use borrow.Author.Needs.{needs}
 use lib.ListN.{length, take, drop}
 use lib.Seq.{length-take-le}
-use Rattle.dodecahedron.specs.Slots.{put}
+use Rattle.stores.specs.Slots.{put}
 use Rattle.strike_records.proofs.Lines.{take-min}
 use Rattle.strike_records.proofs.session.feed_buffer.Statement.{statement}
 use Rattle.strike_records.proofs.session.feed_buffer.Tie as tie

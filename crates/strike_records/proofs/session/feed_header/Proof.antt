@@ -3,7 +3,7 @@ use mathlib.Core.Path.{refl, sym, _∙_}
 use native.Mathlib.Nat.{zero-add}
 use borrow.Author.Needs.{needs}
 use borrow.Author.Tests.{lt-ltb, le-ltb}
-use Rattle.dodecahedron.specs.Slots.{put}
+use Rattle.stores.specs.Slots.{put}
 use Rattle.strike_records.specs.Pieces.{fed}
 use Rattle.strike_records.proofs.Lines.{tail-is}
 use Rattle.strike_records.proofs.session.feed_header.Statement.{statement}

@@ -2,7 +2,7 @@
 use mathlib.Core.Path.{refl}
 use Prim.Native.Nat.{zero-le}
 use borrow.Author.Needs.{needs}
-use Rattle.dodecahedron.specs.Slots.{put}
+use Rattle.stores.specs.Slots.{put}
 use Rattle.strike_records.proofs.Lines.{nothing-fits, last-record, between-records, inside-record}
 use Rattle.strike_records.proofs.session.finish.Statement.{statement}
 use Rattle.strike_records.proofs.session.finish.Tie as tie

@@ -6,7 +6,7 @@ use native.Mathlib.Omega.{arith}
 use borrow.Author.Needs.{needs}
 use lib.ListN.{length, getD, take, drop, length-take, length-drop, set, length-set}
 use lib.Seq.{take-all, getD-take, getD-drop, getD-append-add, length-take-le}
-use Rattle.dodecahedron.specs.Slots.{put}
+use Rattle.stores.specs.Slots.{put}
 use Rattle.set.proofs.Overwrite.{over, store}
 use Rattle.strike_records.specs.Pieces.{leftOver}
 use Rattle.strike_records.proofs.session.keep_rest.Statement.{statement}

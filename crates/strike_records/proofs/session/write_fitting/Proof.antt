@@ -7,7 +7,7 @@ use borrow.Author.Needs.{needs}
 use borrow.Author.Tests.{lt-ltb, le-ltb}
 use lib.ListN.{length}
 use Rattle.strike_records.specs.Line.{LINE}
-use Rattle.dodecahedron.specs.Slots.{put}
+use Rattle.stores.specs.Slots.{put}
 use Rattle.strike_records.specs.Pieces.{fitting}
 use Rattle.strike_records.proofs.Lines.{refusal-fits}
 use Rattle.strike_records.proofs.session.write_fitting.Statement.{statement}

@@ -1,8 +1,0 @@
--- `triangles::sphere_slot` meets its contract. Assumes nothing.
-use borrow.Author.Needs.{needs}
-use native.Mathlib.Omega.{arith}
-use Rattle.dodecahedron.proofs.triangles.sphere_slot.Statement.{statement}
-use Rattle.dodecahedron.proofs.triangles.sphere_slot.Tie as tie
-
-pub sphere-slot-spec : {M : Type 1} → statement M
-sphere-slot-spec = tie.close (tie.spec (λ c. search needs) (λ c. search needs) (λ c. search needs) (λ c. search needs) (λ c. search needs) (λ c. (simp (c .if1 .taken), omega arith)) (λ c. (simp (c .if1 .left), omega arith)))

@@ -1,0 +1,27 @@
+-- `slots::store_sphere` meets its contract. Assumes nothing.
+use mathlib.Core.Path.{ap, _∙_}
+use mathlib.Core.List.{_∷_}
+use Prim.Native.Nat.{_+_}
+use native.Mathlib.Omega.{arith}
+use borrow.Author.Needs.{needs}
+use lib.ListN.{length}
+use lib.Ieee.{ofBits}
+use Rattle.arithmetic.specs.Numbers.{1·0}
+use Rattle.stores.specs.Slots.{sphereRun}
+use Rattle.stores.proofs.Runs.{put-marked, length-put}
+use Rattle.stores.proofs.slots.store_sphere.Statement.{statement}
+use Rattle.stores.proofs.slots.store_sphere.Tie as tie
+
+returns : tie.Need-returns
+unfolding ofBits
+returns c =
+    let a = c .before .before .before .before .before .args in
+    put-marked (a .store .now) (a .at) (a .at + 10) 1·0 _ (sphereRun (a .t)) (omega arith) (c .before .before .write-sphere .ensures) (omega arith)
+
+same-length : tie.Need-same-length
+same-length c =
+    let a = c .before .before .before .before .before .args in
+    ap length (returns c) ∙ length-put (a .store .now) (a .at) (1·0 ∷ sphereRun (a .t)) (omega arith)
+
+pub store-sphere-spec : {M : Type 1} → statement M
+store-sphere-spec = tie.close (tie.spec (λ c. search needs) (λ c. search needs) (λ c. search needs) (λ c. search needs) (λ c. search needs) (λ c. search needs) (λ c. search needs) (λ c. search needs) (λ c κs. search needs) same-length returns)

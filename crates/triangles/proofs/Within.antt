@@ -1,0 +1,79 @@
+-- What is taken for a point, by the way through the code, and that the slots used are such as the stores have. Assumes nothing.
+use mathlib.Core.Path.{_≡_, sym, ap, subst, _∙_}
+use mathlib.Core.Bool.{Bool}
+use mathlib.Core.List.{List}
+use Prim.Native.Nat.{ℕ, _<_}
+use lib.Ieee.{Float}
+use Rattle.answer.specs.Given.{Given, answered, refused, passed, andThen, bind}
+use Rattle.answer.proofs.Given.{bind-answered}
+use Rattle.arithmetic.specs.Arith.{Arith}
+use Rattle.coordinates.specs.declared.coords.SphericalTriangle.{SphericalTriangle}
+use Rattle.coordinates.specs.declared.polar.Polar.{Polar}
+use Rattle.origin.specs.Origins.{originAt}
+use Rattle.tiling.specs.Index.{triangleIndex, shouldReflect}
+use Rattle.tiling.proofs.Modulo.{index-below-10}
+use Rattle.set.specs.Checks.{checkBuffers, checkOrigin}
+use Rattle.stores.specs.Used.{sourceSlot, sphereSlot}
+use Rattle.stores.specs.declared.used.Used.{Used}
+use Rattle.triangles.specs.Triangles.{sphereTaken}
+use Rattle.triangles.specs.Taken.{faceFor, usedFor, takenFor}
+
+pub answered-same : {A : Type 0} {a b : A} → answered a ≡ answered b → a ≡ b
+answered-same {a = a} e = ap (λ (g : Given _). elim g [ answered x ↦ x | refused n ↦ a ]) e
+
+module _ (A : Arith) (table frame face sphere : List Float) (o : ℕ) (polar : Polar) where
+  abbrev checks : Given (Unit {0})
+  checks = andThen (checkBuffers frame face sphere) (checkOrigin o)
+
+  abbrev used : Given Used
+  used = usedFor A table frame face sphere o polar
+
+  -- ---- forwards
+
+  pub set-refused : (n : ℕ) → checks ≡ refused n → takenFor A table frame face sphere o polar ≡ refused n
+  unfolding takenFor
+  set-refused n e = rw e
+
+  pub taken-refused : (n : ℕ) → checks ≡ passed → used ≡ refused n → takenFor A table frame face sphere o polar ≡ refused n
+  unfolding takenFor
+  taken-refused n p e = rw (p, e)
+
+  pub taken-answered : (u : Used) → checks ≡ passed → used ≡ answered u → takenFor A table frame face sphere o polar ≡ answered (record { used = u; face = faceFor A face u })
+  unfolding takenFor
+  taken-answered u p e = rw (p, e)
+
+  module _ (i : ℕ) (r : Bool) (ei : i ≡ triangleIndex A (polar .gamma)) (er : r ≡ shouldReflect A polar) where
+    -- the sphere triangle that is taken
+    abbrev triangle : Given SphericalTriangle
+    triangle = sphereTaken A frame face sphere (originAt table o) (sphereSlot o i r) (sourceSlot i r)
+
+    abbrev then : SphericalTriangle → Given Used
+    then t = answered (record { origin = o; index = i; reflected = r; triangle = t })
+
+    used-is : used ≡ bind triangle then
+    unfolding usedFor
+    used-is =
+        λ k.
+        bind (sphereTaken A frame face sphere (originAt table o) (sphereSlot o (sym ei k) (sym er k)) (sourceSlot (sym ei k) (sym er k))) λ t.
+        answered (record { origin = o; index = sym ei k; reflected = sym er k; triangle = t })
+
+    pub used-refused : (n : ℕ) → triangle ≡ refused n → used ≡ refused n
+    used-refused n e = used-is ∙ ap (λ (g : Given SphericalTriangle). bind g then) e
+
+    pub used-answered : (t : SphericalTriangle) → triangle ≡ answered t → used ≡ then t
+    used-answered t e = used-is ∙ ap (λ (g : Given SphericalTriangle). bind g then) e
+
+  -- ---- backwards
+
+  -- on a set that passes the checks, what is taken is what is used with its face triangle
+  pub taken-is : checks ≡ passed → takenFor A table frame face sphere o polar ≡ bind used λ u. answered (record { used = u; face = faceFor A face u })
+  unfolding takenFor
+  taken-is p = rw p
+
+  pub used-within : (u : Used) → o < 12 → used ≡ answered u → (u .origin < 12) × (u .index < 10)
+  unfolding usedFor
+  used-within u h e =
+      let i = triangleIndex A (polar .gamma) in
+      let r = shouldReflect A polar in
+      let b = bind-answered (sphereTaken A frame face sphere (originAt table o) (sphereSlot o i r) (sourceSlot i r)) _ u e in
+      subst (λ (v : Used). (v .origin < 12) × (v .index < 10)) (answered-same (b .2)) (h, index-below-10 A (polar .gamma))

@@ -1,0 +1,24 @@
+-- `triangles::build_sphere` meets its contract. Assumes nothing.
+use borrow.Author.Needs.{needs}
+use Rattle.triangles.specs.Triangles.{sphereBuilt}
+use Rattle.triangles.proofs.triangles.build_sphere.Statement.{statement}
+use Rattle.triangles.proofs.triangles.build_sphere.Tie as tie
+
+returns : tie.Need-returns
+unfolding sphereBuilt
+returns c = simp (← (c .before .before .before .corner-vertex .ensures), c .before .n .given .1)
+
+returns-2 : tie.Need-returns-2
+unfolding sphereBuilt
+returns-2 c = simp (← (c .before .before .before .before .before .before .before .corner-vertex .ensures), c .before .before .before .before .before .a .given .1, ← (c .before .before .before .corner-vertex2 .ensures), c .before .n2 .given .1)
+
+returns-3 : tie.Need-returns-3
+unfolding sphereBuilt
+returns-3 c = simp (← (c .before .before .before .before .before .before .before .before .before .before .before .corner-vertex .ensures), c .before .before .before .before .before .before .before .before .before .a .given .1, ← (c .before .before .before .before .before .before .before .corner-vertex2 .ensures), c .before .before .before .before .before .b .given .1, ← (c .before .before .before .corner-vertex3 .ensures), c .before .n3 .given .1)
+
+returns-4 : tie.Need-returns-4
+unfolding sphereBuilt
+returns-4 c = simp (← (c .before .before .before .before .before .before .before .before .before .before .before .corner-vertex .ensures), c .before .before .before .before .before .before .before .before .before .a .given .1, ← (c .before .before .before .before .before .before .before .corner-vertex2 .ensures), c .before .before .before .before .before .b .given .1, ← (c .before .before .before .corner-vertex3 .ensures), c .before .c .given .1)
+
+pub build-sphere-spec : {M : Type 1} → statement M
+build-sphere-spec = tie.close (tie.spec (λ c κs. tt) (λ c. search needs) (λ c. search needs) (λ c κs. tt) (λ c. search needs) (λ c. search needs) (λ c κs. tt) (λ c. search needs) (λ c. search needs) returns returns-2 returns-3 returns-4)

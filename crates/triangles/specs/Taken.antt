@@ -1,0 +1,42 @@
+-- Document 01, "Triangles and calls": the triangles that a call takes for a point, and the slots that it uses (projections/dodecahedron.rs). Definitions only.
+use Prim.Native.Nat.{ℕ}
+use mathlib.Core.List.{List}
+use lib.Ieee.{Float}
+use Rattle.answer.specs.Given.{Given, answered, refused, andThen, bind}
+use Rattle.answer.specs.Answer.{numberOf}
+use Rattle.arithmetic.specs.Arith.{Arith}
+use Rattle.coordinates.specs.declared.coords.FaceTriangle.{FaceTriangle}
+use Rattle.coordinates.specs.declared.polar.Polar.{Polar}
+use Rattle.origin.specs.Origins.{originAt}
+use Rattle.tiling.specs.Index.{triangleIndex, shouldReflect}
+use Rattle.set.specs.Checks.{checkBuffers, checkOrigin}
+use Rattle.stores.specs.Used.{faceSlot, sourceSlot, sphereSlot}
+use Rattle.stores.specs.declared.used.Used.{Used}
+use Rattle.triangles.specs.Triangles.{faceTaken, sphereTaken}
+use Rattle.triangles.specs.declared.taken.Taken.{Taken}
+use Rattle.triangles.specs.declared.taken.TakenAnswer.{TakenAnswer}
+use Rattle.triangles.specs.declared.taken.TakenAnswer.the-variants as answer
+
+abbrev pub givenTaken : TakenAnswer → Given Taken
+givenTaken (answer.Answered t) = answered t
+givenTaken (answer.Refused n) = refused (numberOf n)
+
+-- the face triangle of the point
+unfoldable pub faceFor : Arith → List Float → Used → FaceTriangle
+faceFor A face u = faceTaken A face (faceSlot (u .index) (u .reflected))
+
+module _ (A : Arith) (table frame face sphere : List Float) where
+  -- the sphere triangle taken for a polar point, with the slots used; 8 where a vertex has no row
+  unfoldable pub usedFor : ℕ → Polar → Given Used
+  usedFor o polar =
+      let i = triangleIndex A (polar .gamma) in
+      let r = shouldReflect A polar in
+      bind (sphereTaken A frame face sphere (originAt table o) (sphereSlot o i r) (sourceSlot i r)) λ t.
+      answered (record { origin = o; index = i; reflected = r; triangle = t })
+
+  -- both triangles of a polar point, on any buffers and for any id: 1 to 4, and then 8
+  unfoldable pub takenFor : ℕ → Polar → Given Taken
+  takenFor o polar =
+      andThen (andThen (checkBuffers frame face sphere) (checkOrigin o))
+      (bind (usedFor o polar) λ u.
+      answered (record { used = u; face = faceFor A face u }))

@@ -1,0 +1,56 @@
+-- Document 01, "Triangles and calls": the triangles of slots, as a call takes them (projections/dodecahedron.rs). Definitions only.
+use Prim.Native.Nat.{ℕ, _+_, _*_}
+use mathlib.Core.Bool.{cond}
+use mathlib.Core.List.{List}
+use lib.Ieee.{Float}
+use Rattle.answer.specs.Given.{Given, answered, refused, bind}
+use Rattle.answer.specs.Answer.{numberOf}
+use Rattle.arithmetic.specs.Arith.{Arith}
+use Rattle.coordinates.specs.CoordinateTransforms.{radians, toPolar, toCartesian}
+use Rattle.coordinates.specs.Gnomonic.{gnomonicInverse}
+use Rattle.coordinates.specs.declared.coords.Face.{Face}
+use Rattle.coordinates.specs.declared.coords.Cartesian.{Cartesian}
+use Rattle.coordinates.specs.declared.coords.FaceTriangle.{FaceTriangle}
+use Rattle.coordinates.specs.declared.coords.SphericalTriangle.{SphericalTriangle}
+use Rattle.origin.specs.Quaternion.{transformQuat}
+use Rattle.origin.specs.declared.utils.Origin.{Origin}
+use Rattle.tiling.specs.FaceTriangles.{faceTriangle}
+use Rattle.crs.specs.Frame.{findVertex}
+use Rattle.set.specs.Sizes.{FACE-WIDTH, SPHERE-WIDTH}
+use Rattle.stores.specs.Slots.{run, filled, faceIn, sphereIn}
+use Rattle.triangles.specs.declared.triangles.TriangleAnswer.{TriangleAnswer}
+use Rattle.triangles.specs.declared.triangles.TriangleAnswer.the-variants as triangle
+
+abbrev pub givenTriangle : TriangleAnswer → Given SphericalTriangle
+givenTriangle (triangle.Answered t) = answered t
+givenTriangle (triangle.Refused n) = refused (numberOf n)
+
+module _ (A : Arith) where
+  open Arith A using (_⊕_)
+
+  infixl 60 _⊕_
+  -- "A filled slot is read as it stands"; for an empty one it is the triangle defined for the slot
+  unfoldable pub faceTaken : List Float → ℕ → FaceTriangle
+  faceTaken store k = cond (filled store (k * FACE-WIDTH)) (faceIn (run store (k * FACE-WIDTH + 1) 6)) (faceTriangle A k)
+
+  -- compute_spherical_triangle, one corner: turned to the origin, and looked up in the frame; 8 where there is no row
+  unfoldable pub cornerVertex : List Float → Origin → Face → Given Cartesian
+  cornerVertex frame o f =
+      let polar = toPolar A f in
+      let turned = gnomonicInverse A (record { rho = polar .rho; gamma = radians (polar .gamma .0 ⊕ o .angle .0) }) in
+      findVertex A frame (transformQuat A (toCartesian A turned) (o .quat))
+
+  -- compute_spherical_triangle
+  unfoldable pub sphereBuilt : List Float → Origin → FaceTriangle → Given SphericalTriangle
+  sphereBuilt frame o t =
+      bind (cornerVertex frame o (t .a)) λ a.
+      bind (cornerVertex frame o (t .b)) λ b.
+      bind (cornerVertex frame o (t .c)) λ c.
+      answered (record { a = a; b = b; c = c })
+
+  -- the sphere triangle of slot k, which is built on the face triangle of slot j if it is empty
+  unfoldable pub sphereTaken : List Float → List Float → List Float → Origin → ℕ → ℕ → Given SphericalTriangle
+  sphereTaken frame face sphere o k j =
+      cond (filled sphere (k * SPHERE-WIDTH))
+      (answered (sphereIn (run sphere (k * SPHERE-WIDTH + 1) 9)))
+      (sphereBuilt frame o (faceTaken face j))

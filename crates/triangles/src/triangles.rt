@@ -1,0 +1,155 @@
+// The triangles of slots: a filled slot as it stands, and for an empty one the triangle that is built
+// for it.
+use answer::Refusal;
+use coordinates::base::Radians;
+use coordinates::coordinate_transforms::to_cartesian;
+use coordinates::coordinate_transforms::to_polar;
+use coordinates::coords::Cartesian;
+use coordinates::coords::Face;
+use coordinates::coords::FaceTriangle;
+use coordinates::coords::SphericalTriangle;
+use coordinates::polar::Polar;
+use coordinates::vec2::Vec2;
+use coordinates::vec3::Vec3;
+use crs::frame::VertexAnswer;
+use origin::quaternion::transform_quat;
+use origin::utils::Origin;
+use set::sizes::FACE_WIDTH;
+use set::sizes::SPHERE_WIDTH;
+use stores::slots::is_filled;
+ghost use mathlib.Core.Path.{_≡_};
+ghost use Prim.Native.Nat.{_<_};
+ghost use lib.ListN.{length};
+ghost use Rattle.arithmetic.specs.Arith.{ieee};
+ghost use Rattle.crs.specs.Frame.{givenVertex};
+ghost use Rattle.set.specs.Sizes.{FACE-SLOTS, FACE-STORE, SPHERE-SLOTS, SPHERE-STORE};
+ghost use Rattle.stores.specs.Slots.{faceIn, sphereIn};
+ghost use Rattle.stores.specs.Used.{faceSlot, sourceSlot};
+ghost use Rattle.triangles.specs.Triangles.{faceTaken, cornerVertex, sphereBuilt, sphereTaken, givenTriangle};
+
+pub enum TriangleAnswer {
+    Answered(SphericalTriangle),
+    Refused(Refusal),
+}
+
+pub(crate) fn face_slot(index: usize, reflected: bool) -> usize
+    requires { ⌜ index < 10 ⌝ }
+    ensures { λ r. ⌜ (r ≡ faceSlot index reflected) × (r < FACE-SLOTS) ⌝ }
+{
+    if reflected { index + 10 } else { index }
+}
+
+pub(crate) fn source_slot(index: usize, reflected: bool) -> usize
+    requires { ⌜ index < 10 ⌝ }
+    ensures { λ r. ⌜ (r ≡ sourceSlot index reflected) × (r < FACE-SLOTS) ⌝ }
+{
+    if reflected { index + 20 } else { index }
+}
+
+// The triangle of a run of coordinates, as it stands.
+fn read_face(run: &[f64]) -> FaceTriangle
+    requires { ⌜ length (now run) ≡ 6 ⌝ }
+    ensures { λ r. ⌜ r ≡ faceIn (now (run .entry)) ⌝ }
+{
+    FaceTriangle {
+        a: Face(Vec2 {
+            x: run[0],
+            y: run[1],
+        }),
+        b: Face(Vec2 {
+            x: run[2],
+            y: run[3],
+        }),
+        c: Face(Vec2 {
+            x: run[4],
+            y: run[5],
+        }),
+    }
+}
+
+fn read_sphere(run: &[f64]) -> SphericalTriangle
+    requires { ⌜ length (now run) ≡ 9 ⌝ }
+    ensures { λ r. ⌜ r ≡ sphereIn (now (run .entry)) ⌝ }
+{
+    SphericalTriangle {
+        a: Cartesian(Vec3 {
+            x: run[0],
+            y: run[1],
+            z: run[2],
+        }),
+        b: Cartesian(Vec3 {
+            x: run[3],
+            y: run[4],
+            z: run[5],
+        }),
+        c: Cartesian(Vec3 {
+            x: run[6],
+            y: run[7],
+            z: run[8],
+        }),
+    }
+}
+
+pub(crate) fn take_face(store: &[f64], slot: usize) -> FaceTriangle
+    requires { ⌜ (slot < FACE-SLOTS) × (length (now store) ≡ FACE-STORE) ⌝ }
+    ensures { λ r. ⌜ r ≡ faceTaken ieee (now (store .entry)) slot ⌝ }
+{
+    let at = slot * FACE_WIDTH;
+    if is_filled(store, at) {
+        read_face(&store[at + 1..at + FACE_WIDTH])
+    } else {
+        tiling::face_triangles::face_triangle(slot)
+    }
+}
+
+// A corner of a face triangle, turned to the origin and looked up in the frame.
+fn corner_vertex(frame: &[f64], origin: Origin, corner: Face) -> VertexAnswer
+    ensures { λ r. ⌜ givenVertex r ≡ cornerVertex ieee (now (frame .entry)) origin corner ⌝ }
+{
+    let polar = to_polar(corner);
+    let rotated_polar = Polar {
+        rho: polar.rho,
+        gamma: Radians(polar.gamma.0 + origin.angle.0),
+    };
+    let rotated = to_cartesian(coordinates::gnomonic::inverse(rotated_polar));
+    let quat = origin.quat;
+    crs::frame::get_vertex(frame, transform_quat(rotated, quat))
+}
+
+fn build_sphere(frame: &[f64], origin: Origin, t: FaceTriangle) -> TriangleAnswer
+    ensures { λ r. ⌜ givenTriangle r ≡ sphereBuilt ieee (now (frame .entry)) origin t ⌝ }
+{
+    match corner_vertex(frame, origin, t.a) {
+        VertexAnswer::Refused(n) => TriangleAnswer::Refused(n),
+        VertexAnswer::Answered(a) => match corner_vertex(frame, origin, t.b) {
+            VertexAnswer::Refused(n) => TriangleAnswer::Refused(n),
+            VertexAnswer::Answered(b) => match corner_vertex(frame, origin, t.c) {
+                VertexAnswer::Refused(n) => TriangleAnswer::Refused(n),
+                VertexAnswer::Answered(c) => {
+                    TriangleAnswer::Answered(SphericalTriangle { a, b, c })
+                }
+            },
+        },
+    }
+}
+
+// The sphere triangle of a slot, built on the face triangle of the slot source where it is empty.
+pub(crate) fn take_sphere(
+    frame: &[f64],
+    face_store: &[f64],
+    sphere_store: &[f64],
+    origin: Origin,
+    slot: usize,
+    source: usize,
+) -> TriangleAnswer
+    requires { ⌜ (slot < SPHERE-SLOTS) × (length (now «sphere_store») ≡ SPHERE-STORE) ⌝ }
+    requires { ⌜ (source < FACE-SLOTS) × (length (now «face_store») ≡ FACE-STORE) ⌝ }
+    ensures { λ r. ⌜ givenTriangle r ≡ sphereTaken ieee (now (frame .entry)) (now («face_store» .entry)) (now («sphere_store» .entry)) origin slot source ⌝ }
+{
+    let at = slot * SPHERE_WIDTH;
+    if is_filled(sphere_store, at) {
+        TriangleAnswer::Answered(read_sphere(&sphere_store[at + 1..at + SPHERE_WIDTH]))
+    } else {
+        build_sphere(frame, origin, take_face(face_store, source))
+    }
+}
