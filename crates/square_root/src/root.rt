@@ -46,24 +46,6 @@ fn widened(m: u64, h: u64) -> Wide
     }
 }
 
-// y - t, or y where t is above it. The sign bit of the difference makes a mask: no branch.
-fn reduced(y: u64, t: u64) -> u64
-    requires { ⌜ (y < 2 ^ 63) × (t < 2 ^ 63) ⌝ }
-    ensures { λ r. ⌜ r ≡ cond (leb t y) (y - t) y ⌝ }
-{
-    let d = std::num::wrapping_sub_u64(y, t);
-    std::num::wrapping_add_u64(d, t & std::num::wrapping_sub_u64(0, d >> 63))
-}
-
-// r, or 0 where t is above y: no branch.
-fn digit(y: u64, t: u64, r: u64) -> u64
-    requires { ⌜ (y < 2 ^ 63) × (t < 2 ^ 63) ⌝ }
-    ensures { λ v. ⌜ v ≡ cond (leb t y) r 0 ⌝ }
-{
-    let d = std::num::wrapping_sub_u64(y, t);
-    r & std::num::wrapping_sub_u64(d >> 63, 1)
-}
-
 // About the root's 53 digits, of the value with pattern b, or 0: three of Newton's steps for 1/√x and, from what its square
 // leaves of x, one for √x. Nothing rests on how near it comes but the time that `nearest_root` takes.
 fn guess(b: u64) -> u64
@@ -88,9 +70,8 @@ fn guess(b: u64) -> u64
     0x10_0000_0000_0000 + f64::to_bits(s) % 0x10_0000_0000_0000
 }
 
-// Whether q is the whole number nearest to the root of n, a * 2^52: no further from it than 1/2, so that q's square lies
-// within q of n. False too where the square is too far off for one word. With q = h * 2^26 + l the square is
-// h * h * 2^52 + h * l * 2^27 + l * l.
+// Where true, q is the whole number nearest to the root of n, a * 2^52: no further from it than 1/2, so that q's square lies
+// within q of n. Where false, nothing is said. With q = h * 2^26 + l the square is h * h * 2^52 + h * l * 2^27 + l * l.
 fn is_nearest(a: u64, q: u64) -> bool
     requires { ⌜ (a < 2 ^ 54) × (q < 2 ^ 53) ⌝ }
     ensures { λ r. ⌜ (r ≡ true → q ≡ nearestRoot 53 (a * 2 ^ 52)) ⌝ }
@@ -122,6 +103,24 @@ fn is_nearest(a: u64, q: u64) -> bool
         return false;
     }
     t <= m + q
+}
+
+// y - t, or y where t is above it. The sign bit of the difference makes a mask: no branch.
+fn reduced(y: u64, t: u64) -> u64
+    requires { ⌜ (y < 2 ^ 63) × (t < 2 ^ 63) ⌝ }
+    ensures { λ r. ⌜ r ≡ cond (leb t y) (y - t) y ⌝ }
+{
+    let d = std::num::wrapping_sub_u64(y, t);
+    std::num::wrapping_add_u64(d, t & std::num::wrapping_sub_u64(0, d >> 63))
+}
+
+// r, or 0 where t is above y: no branch.
+fn digit(y: u64, t: u64, r: u64) -> u64
+    requires { ⌜ (y < 2 ^ 63) × (t < 2 ^ 63) ⌝ }
+    ensures { λ v. ⌜ v ≡ cond (leb t y) r 0 ⌝ }
+{
+    let d = std::num::wrapping_sub_u64(y, t);
+    r & std::num::wrapping_sub_u64(d >> 63, 1)
 }
 
 // The whole number nearest to the root of a * 2^52, digit by digit. With q for the digits found and r for the weight
