@@ -1,4 +1,5 @@
 -- Laws about powers of two, the values of a format, the operations on them and the definitions of `specs/`, for every crate to cite.
+pub mod WholeNumbers
 pub mod Powers
 pub mod Units
 pub mod Compared

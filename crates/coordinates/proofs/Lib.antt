@@ -1,3 +1,4 @@
--- Ranges that answers and angles stay in.
+-- The authalic series as a sum, and ranges that answers and angles stay in.
+pub mod Series
 pub mod SineArguments
 pub mod Longitude

@@ -7,15 +7,15 @@ use Rattle.elementary.specs.Sine.{sinCos}
 use Rattle.coordinates.specs.Constants.{2·0, GEODETIC-TO-AUTHALIC, AUTHALIC-TO-GEODETIC}
 use Rattle.coordinates.specs.declared.base.Radians.{Radians}
 
--- The five steps "as written", over any numbers: the multiplier x and the coefficients c[0] .. c[5]. In the second step the recurrence for Karney's series would have
--- "− c[5]"; document 01 keeps the Rust's step.
+-- The five steps of the recurrence for Karney's six-term series, over any numbers: the multiplier x and the coefficients c[0] .. c[5]. They are the Rust's but for the second, which
+-- "reads x·u0 − c[5] + c[3] from left to right" (Paper 8); u0 is s1 here. Over whole numbers they are the series' sum (`Series`).
 module _ {X : Type 0} (_⊕_ _⊖_ _⊗_ : X → X → X) where
   infixl 60 _⊕_ _⊖_
   infixl 70 _⊗_
   unfoldable pub recurrence : X → X → X → X → X → X → X → X
   recurrence x c0 c1 c2 c3 c4 c5 =
       let s1 = x ⊗ c5 ⊕ c4 in
-      let s2 = x ⊗ s1 ⊕ c3 in
+      let s2 = x ⊗ s1 ⊖ c5 ⊕ c3 in
       let s3 = x ⊗ s2 ⊖ s1 ⊕ c2 in
       let s4 = x ⊗ s3 ⊖ s2 ⊕ c1 in
       x ⊗ s4 ⊖ s3 ⊕ c0

@@ -2,6 +2,7 @@
 pub mod Constants
 pub mod Vector
 pub mod Authalic
+pub mod Series
 pub mod Gnomonic
 pub mod CoordinateTransforms
 pub mod Conversions

@@ -22,7 +22,7 @@ const AUTHALIC_TO_GEODETIC: [f64; 6] = [
     4.9284235482523806e-17,
 ];
 
-// The five steps of the Rust as written: the second has no "- c[5]".
+// The five steps of the Rust, the second with the "- c[5]" that it lacks there.
 fn apply_coefficients(phi: Radians, c: [f64; 6]) -> Radians
     ensures { λ r. ⌜ r ≡ applyCoefficients ieee phi c ⌝ }
 {
@@ -32,7 +32,7 @@ fn apply_coefficients(phi: Radians, c: [f64; 6]) -> Radians
     let x = 2.0 * (cos_phi - sin_phi) * (cos_phi + sin_phi);
 
     let u0 = x * c[5] + c[4];
-    let u1 = x * u0 + c[3];
+    let u1 = x * u0 - c[5] + c[3];
     let u0 = x * u1 - u0 + c[2];
     let u1 = x * u0 - u1 + c[1];
     let u0 = x * u1 - u0 + c[0];

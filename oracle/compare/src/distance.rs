@@ -10,6 +10,7 @@ use crate::draw::globe;
 use crate::inputs::lon_lat_of;
 use crate::plain::{self, Ours, Plain, NO_SLOT};
 use crate::row::{Row, Unit};
+use crate::series_distance;
 use crate::step_distance;
 use a5::core::constants::{DISTANCE_TO_EDGE, TWO_PI_OVER_5};
 use a5::core::origin::find_nearest_origin;
@@ -164,4 +165,5 @@ pub fn run(n: usize, seed: u64) {
     println!("\n{}", table.shown.join("\n"));
     println!("\nSteps, {n} inputs a line, in units in the last place.\n");
     step_distance::write(n, &mut table.g);
+    series_distance::write(n, &mut table.g);
 }

@@ -32,6 +32,7 @@ mod refused;
 mod row;
 mod script;
 mod self_test;
+mod series_distance;
 #[allow(dead_code)]
 #[path = "../../calls/src/set.rs"]
 mod set;
