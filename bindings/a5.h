@@ -56,7 +56,7 @@ extern "C" {
 #define A5_KIND_SPHERE 1
 
 /* What a call returns. Where several refusals apply, the one with the lowest number is given, except that each number
- * passed is tried for 5 and then 6 before the next one. */
+ * passed is tried for 5 and then 6 before the next one, and 19 is tried after 8 and before 9. */
 enum a5_status {
     A5_ANSWERED = 0,
     A5_REFUSED_FRAME_LENGTH = 1,        /* the frame isn't 186 long */
@@ -72,7 +72,9 @@ enum a5_status {
     /* These three are the strike program's. No function here returns them. */
     A5_REFUSED_HEADER = 11,      /* the input's header is missing, wrong or short */
     A5_REFUSED_RECORD_KIND = 12, /* a record's kind isn't 1 or 2, or kind 1 with a non-zero origin byte */
-    A5_REFUSED_CUT_OFF = 13      /* the input ends inside a record */
+    A5_REFUSED_CUT_OFF = 13,     /* the input ends inside a record */
+    /* Inverse and unplace: a point too far off the face. */
+    A5_REFUSED_ANGLE_OUTSIDE = 19 /* no corner is returned and the angle from the area share is beyond +-64 */
 };
 
 /* Open: writes the frame and fills both stores with 0.0. Refusals: 1, 2, 3, 7. */
@@ -85,7 +87,7 @@ uint8_t a5_forward(const double *frame, size_t frame_length, double *face, size_
                    size_t sphere_length, double theta, double phi, uint8_t origin, double to[2]);
 
 /* Inverse: from a face point x, y (-4 to 4) on the face of an origin (0 to 11) to theta and phi, in radians.
- * to[0] is theta and to[1] is phi. Writes the empty slots that it uses. Refusals: 1 to 6, 8, 9. */
+ * to[0] is theta and to[1] is phi. Writes the empty slots that it uses. Refusals: 1 to 6, 8, 19, 9. */
 uint8_t a5_inverse(const double *frame, size_t frame_length, double *face, size_t face_length, double *sphere,
                    size_t sphere_length, double x, double y, uint8_t origin, double to[2]);
 
@@ -96,7 +98,8 @@ uint8_t a5_place(const double *frame, size_t frame_length, double *face, size_t 
                  size_t sphere_length, double longitude, double latitude, uint8_t *id, double to[2]);
 
 /* Unplace: from a face point x, y (-4 to 4) on the face of an origin (0 to 11) to longitude and latitude, in degrees.
- * to[0] is the longitude and to[1] the latitude. Writes the empty slots that it uses. Refusals: 1 to 6, 8, 9. */
+ * to[0] is the longitude and to[1] the latitude. Writes the empty slots that it uses.
+ * Refusals: 1 to 6, 8, 19, 9. */
 uint8_t a5_unplace(const double *frame, size_t frame_length, double *face, size_t face_length, double *sphere,
                    size_t sphere_length, double x, double y, uint8_t origin, double to[2]);
 

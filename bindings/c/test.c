@@ -200,12 +200,14 @@ static void wrong_numbers(void) {
         wrong_numbers_of(CALLS[c].name, CALLS[c].call, &s, CALLS[c].limits[0], CALLS[c].limits[1]);
 }
 
-/* 8 on a set that was never opened, 9 at the antipode of an origin's axis. */
+/* 8 on a set that was never opened, 9 at the antipode of an origin's axis, 19 at a point whose angle is beyond 64. */
 static void wrong_contents_and_answers(void) {
     struct set zeros = filled_with(0.0), s = opened();
     for (int c = 0; c < ON_A_SET; c++)
         refuses(CALLS[c].name, CALLS[c].call, &zeros, 0.1, 0.1, 0, A5_REFUSED_NO_VERTEX);
     refuses("forward", forward, &s, 0.0, 3.141592653589793, 0, A5_REFUSED_ANSWER_NOT_FINITE);
+    refuses("inverse", inverse, &s, 1.235847662, -0.125812592, 7, A5_REFUSED_ANGLE_OUTSIDE);
+    refuses("unplace", unplace, &s, 1.235847662, -0.125812592, 7, A5_REFUSED_ANGLE_OUTSIDE);
 }
 
 /* ---- show */

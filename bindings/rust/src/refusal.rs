@@ -1,6 +1,6 @@
-// Refusals, by document 01's table.
+// Refusals, by the table of document 01 and the change requests.
 
-/// Why a call was refused. The discriminant is the number in document 01's table.
+/// Why a call was refused. The discriminant is its number in the table.
 #[derive(Clone, Copy, Debug, PartialEq, Eq)]
 #[repr(u8)]
 pub enum Refusal {
@@ -30,11 +30,14 @@ pub enum Refusal {
     RecordKind = 12,
     /// The strike program's: the input ends inside a record.
     CutOff = 13,
+    /// Inverse and unplace: no corner is returned, and the angle from the area share is finite and beyond ±64: the point is
+    /// too far off the face.
+    AngleOutside = 19,
 }
 
 impl Refusal {
     /// Every refusal, in the table's order.
-    pub const ALL: [Refusal; 13] = [
+    pub const ALL: [Refusal; 14] = [
         Refusal::FrameLength,
         Refusal::FaceStoreLength,
         Refusal::SphereStoreLength,
@@ -48,9 +51,10 @@ impl Refusal {
         Refusal::Header,
         Refusal::RecordKind,
         Refusal::CutOff,
+        Refusal::AngleOutside,
     ];
 
-    /// The number in document 01's table.
+    /// The number in the table.
     pub fn number(self) -> u8 {
         self as u8
     }

@@ -125,12 +125,12 @@ fn open_writes_the_frame_and_clears_the_stores() {
 
 #[test]
 fn refusals_have_the_numbers_of_the_table() {
-    for (i, refusal) in Refusal::ALL.into_iter().enumerate() {
-        assert_eq!(refusal.number() as usize, i + 1);
-        assert_eq!(Refusal::from_number(refusal.number()), Some(refusal));
+    let numbers = Refusal::ALL.map(Refusal::number);
+    assert_eq!(numbers, [1, 2, 3, 4, 5, 6, 7, 8, 9, 10, 11, 12, 13, 19]);
+    for number in 0..=255 {
+        let refusal = Refusal::ALL.into_iter().find(|r| *r as u8 == number);
+        assert_eq!(Refusal::from_number(number), refusal, "{number}");
     }
-    assert_eq!(Refusal::from_number(0), None);
-    assert_eq!(Refusal::from_number(14), None);
 }
 
 #[test]
@@ -225,6 +225,21 @@ fn an_answer_that_is_not_finite_is_refused() {
     let mut buffers = Buffers::opened();
     let antipode = [0.0, std::f64::consts::PI];
     refuses(forward, &mut buffers, antipode, 0, Refusal::AnswerNotFinite);
+}
+
+#[test]
+fn a_point_too_far_off_the_face_is_refused() {
+    for call in [inverse, unplace] {
+        for (point, origin) in [([1.235847662, -0.125812592], 7), ([1.235734985, 0.265693756], 4)] {
+            let mut buffers = Buffers::opened();
+            refuses(call, &mut buffers, point, origin, Refusal::AngleOutside);
+            // 8 comes before it
+            let mut zeros = Buffers::filled_with(0.0, LENGTHS);
+            refuses(call, &mut zeros, point, origin, Refusal::NoVertex);
+        }
+        // as far off, and a corner
+        assert!(call(&mut Buffers::opened(), 4.0, 4.0, 7).is_ok());
+    }
 }
 
 // ---- show

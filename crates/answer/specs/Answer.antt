@@ -34,6 +34,8 @@ numberOf refusal.Header = 11
 numberOf refusal.RecordKind = 12
 -- program: input ends inside a record
 numberOf refusal.CutOff = 13
+-- Paper 7: inverse and unplace: no corner is returned, and the angle from the area share is finite and beyond ±64
+numberOf refusal.AngleOutside = 19
 
 abbrev pub givenCheck : Check → Given (Unit {0})
 givenCheck check.Passed = passed

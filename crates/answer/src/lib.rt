@@ -19,6 +19,8 @@ pub enum Refusal {
     Header,
     RecordKind,
     CutOff,
+    // Paper 7: inverse and unplace, for a point too far off the face
+    AngleOutside,
 }
 
 // The number of a refusal.
@@ -39,6 +41,7 @@ pub fn number(r: Refusal) -> u8
         Refusal::Header => 11,
         Refusal::RecordKind => 12,
         Refusal::CutOff => 13,
+        Refusal::AngleOutside => 19,
     }
 }
 

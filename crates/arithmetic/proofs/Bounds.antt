@@ -61,7 +61,7 @@ or-le true q f g t = le-of-lt (f tt)
 or-le false true f g t = le-of-eq (g tt)
 or-le false false f g t = absurd t
 
-le-within : (x y : Float) → T (clear x) → T (clear y) → T (finite y) → T (le x y) → Within x y
+pub le-within : (x y : Float) → T (clear x) → T (clear y) → T (finite y) → T (le x y) → Within x y
 unfolding le
 le-within nan y c d f l = absurd c
 le-within (inf true) y c d f l = absurd c

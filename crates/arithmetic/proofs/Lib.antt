@@ -13,4 +13,5 @@ pub mod Ieee754
 pub mod SqrtOrder
 pub mod Quick
 pub mod Bounds
+pub mod Bounded
 pub mod Order

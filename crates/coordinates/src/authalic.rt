@@ -1,7 +1,9 @@
 // Geodetic latitude to authalic, on the sphere of equal area, and back.
 use crate::base::Radians;
 ghost use mathlib.Core.Path.{_≡_};
+ghost use mathlib.Core.Bool.{false};
 ghost use Rattle.arithmetic.specs.Arith.{ieee};
+ghost use Rattle.elementary.specs.Sine.{outside};
 ghost use Rattle.coordinates.specs.Authalic.{applyCoefficients, authalicForward, authalicInverse};
 
 const GEODETIC_TO_AUTHALIC: [f64; 6] = [
@@ -24,9 +26,10 @@ const AUTHALIC_TO_GEODETIC: [f64; 6] = [
 
 // The five steps of the Rust, the second with the "- c[5]" that it lacks there.
 fn apply_coefficients(phi: Radians, c: [f64; 6]) -> Radians
+    requires { ⌜ outside (phi .0) ≡ false ⌝ }
     ensures { λ r. ⌜ r ≡ applyCoefficients ieee phi c ⌝ }
 {
-    let p = elementary::sine::sin_cos(phi.0);
+    let p = elementary::sine::sin_cos_inside(phi.0);
     let sin_phi = p.sin;
     let cos_phi = p.cos;
     let x = 2.0 * (cos_phi - sin_phi) * (cos_phi + sin_phi);
@@ -42,6 +45,7 @@ fn apply_coefficients(phi: Radians, c: [f64; 6]) -> Radians
 
 // Geodetic to authalic.
 pub fn forward(phi: Radians) -> Radians
+    requires { ⌜ outside (phi .0) ≡ false ⌝ }
     ensures { λ r. ⌜ r ≡ authalicForward ieee phi ⌝ }
 {
     apply_coefficients(phi, GEODETIC_TO_AUTHALIC)
@@ -49,6 +53,7 @@ pub fn forward(phi: Radians) -> Radians
 
 // Authalic to geodetic.
 pub fn inverse(phi: Radians) -> Radians
+    requires { ⌜ outside (phi .0) ≡ false ⌝ }
     ensures { λ r. ⌜ r ≡ authalicInverse ieee phi ⌝ }
 {
     apply_coefficients(phi, AUTHALIC_TO_GEODETIC)

@@ -12,10 +12,14 @@ use crate::spherical::Spherical;
 use crate::vec2::Vec2;
 use crate::vec3::Vec3;
 use elementary::arctangent::atan2;
-use elementary::sine::sin_cos;
+use elementary::sine::sin_cos_inside;
 use square_root::root::sqrt;
 ghost use mathlib.Core.Path.{_≡_};
+ghost use mathlib.Core.Bool.{false};
+ghost use lib.Ieee.{binary64, sub};
 ghost use Rattle.arithmetic.specs.Arith.{ieee};
+ghost use Rattle.elementary.specs.Constants.{FRAC-PI-2};
+ghost use Rattle.elementary.specs.Sine.{outside};
 ghost use Rattle.coordinates.specs.CoordinateTransforms.{degToRad, radToDeg, toPolar, toFace, faceToBarycentric, barycentricToFace, toSpherical, toCartesian, fromLonLat, normalizeLongitude, toLonLat};
 
 const PI: f64 = 3.141592653589793;
@@ -45,10 +49,11 @@ pub fn to_polar(face: Face) -> Polar
 }
 
 pub fn to_face(polar: Polar) -> Face
+    requires { ⌜ outside (polar .gamma .0) ≡ false ⌝ }
     ensures { λ r. ⌜ r ≡ toFace ieee polar ⌝ }
 {
     let rho = polar.rho;
-    let gamma = sin_cos(polar.gamma.0);
+    let gamma = sin_cos_inside(polar.gamma.0);
     let x = rho * gamma.cos;
     let y = rho * gamma.sin;
     Face(Vec2 { x, y })
@@ -108,10 +113,11 @@ pub fn to_spherical(cart: Cartesian) -> Spherical
 }
 
 pub fn to_cartesian(spherical: Spherical) -> Cartesian
+    requires { ⌜ (outside (spherical .theta .0) ≡ false) × (outside (spherical .phi .0) ≡ false) ⌝ }
     ensures { λ r. ⌜ r ≡ toCartesian ieee spherical ⌝ }
 {
-    let theta = sin_cos(spherical.theta.0);
-    let phi = sin_cos(spherical.phi.0);
+    let theta = sin_cos_inside(spherical.theta.0);
+    let phi = sin_cos_inside(spherical.phi.0);
 
     let x = phi.sin * theta.cos;
     let y = phi.sin * theta.sin;
@@ -125,6 +131,7 @@ const LONGITUDE_OFFSET: f64 = 93.0;
 
 // The conversion without its checks.
 pub fn from_lon_lat(lonlat: LonLat) -> Spherical
+    requires { ⌜ outside (degToRad ieee (lonlat .latitude) .0) ≡ false ⌝ }
     ensures { λ r. ⌜ r ≡ fromLonLat ieee lonlat ⌝ }
 {
     let theta = deg_to_rad(Degrees(lonlat.longitude.0 + LONGITUDE_OFFSET));
@@ -146,6 +153,7 @@ pub fn normalize_longitude(lon: Degrees) -> Degrees
 
 // The conversion without its checks.
 pub fn to_lon_lat(spherical: Spherical) -> LonLat
+    requires { ⌜ outside (sub binary64 FRAC-PI-2 (spherical .phi .0)) ≡ false ⌝ }
     ensures { λ r. ⌜ r ≡ toLonLat ieee spherical ⌝ }
 {
     let theta = spherical.theta;

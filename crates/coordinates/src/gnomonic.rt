@@ -3,15 +3,18 @@ use crate::base::Radians;
 use crate::polar::Polar;
 use crate::spherical::Spherical;
 ghost use mathlib.Core.Path.{_≡_};
+ghost use mathlib.Core.Bool.{false};
 ghost use Rattle.arithmetic.specs.Arith.{ieee};
+ghost use Rattle.elementary.specs.Sine.{outside};
 ghost use Rattle.coordinates.specs.Gnomonic.{gnomonicForward, gnomonicInverse};
 
 pub fn forward(spherical: Spherical) -> Polar
+    requires { ⌜ outside (spherical .phi .0) ≡ false ⌝ }
     ensures { λ r. ⌜ r ≡ gnomonicForward ieee spherical ⌝ }
 {
     let theta = spherical.theta;
     Polar {
-        rho: elementary::sine::tan(spherical.phi.0),
+        rho: elementary::sine::tan_inside(spherical.phi.0),
         gamma: theta,
     }
 }

@@ -5,3 +5,4 @@ pub mod Stores
 pub mod Rows
 pub mod Squares
 pub mod Tolerance
+pub mod Sizes

@@ -7,7 +7,11 @@ use origin::origin::get_origin;
 use origin::quaternion::transform_quat;
 use origin::utils::Origin;
 ghost use mathlib.Core.Path.{_≡_};
+ghost use mathlib.Core.Bool.{false};
+ghost use Prim.Native.Nat.{_<_};
 ghost use Rattle.arithmetic.specs.Arith.{ieee};
+ghost use Rattle.elementary.specs.Sine.{beyond, outside};
+ghost use Rattle.coordinates.specs.Constants.{8·0};
 ghost use Rattle.origin.specs.Origins.{ORIGINS};
 ghost use Rattle.crs.specs.Candidates.{around, faceCenter, vertex, midpoint, candidate};
 
@@ -21,6 +25,7 @@ const PHI_MIDPOINT: f64 = 0.5535743588970453;
 
 // m tenths of a turn from the origin's angle, and phi from its axis.
 fn around(origin: Origin, m: u8, phi: f64) -> Cartesian
+    requires { ⌜ (m < 10) × (beyond 8·0 (origin .angle .0) ≡ false) × (outside phi ≡ false) ⌝ }
     ensures { λ r. ⌜ r ≡ around ieee origin m phi ⌝ }
 {
     let theta = m as f64 * PI / 5.0;

@@ -111,11 +111,12 @@ module _ (A : Arith) (table frame face sphere : List Float) where
       bind (usedFor A table frame face sphere o (polarAbout A (originAt table o) v)) λ u.
       answered (record { answer = forward A (frameConstants A frame) v (u .triangle) (cross A (u .triangle .b) (u .triangle .c)) (faceFor A face u); used = u })
 
-  -- DodecahedronProjection::inverse
+  -- DodecahedronProjection::inverse; Paper 7: 19 "tried after 8 and before 9"
   unfoldable pub inverseCore : Face → ℕ → Given (Work Spherical)
   inverseCore f o =
       bind (usedFor A table frame face sphere o (toPolar A f)) λ u.
-      answered (record { answer = toSpherical A (inverse A (frameConstants A frame) f (faceFor A face u) (u .triangle)); used = u })
+      bind (inverse A (frameConstants A frame) f (faceFor A face u) (u .triangle)) λ p.
+      answered (record { answer = toSpherical A p; used = u })
 
   -- ---- the calls
 

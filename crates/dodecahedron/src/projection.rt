@@ -14,15 +14,18 @@ use coordinates::coords::SphericalTriangle;
 use coordinates::polar::Polar;
 use coordinates::spherical::Spherical;
 use coordinates::vec3::Vec3;
+use equal_area::equal_area::PointAnswer;
 use equal_area::equal_area::TriangleConstants;
 use origin::origin::get_origin;
 use origin::utils::Origin;
 use triangles::taken::TakenAnswer;
 use triangles::taken::take;
 ghost use mathlib.Core.Path.{_≡_};
+ghost use mathlib.Core.Bool.{false};
 ghost use Prim.Native.Nat.{_+_, _*_, _<_, _≤_};
 ghost use lib.ListN.{length};
 ghost use Rattle.arithmetic.specs.Arith.{ieee};
+ghost use Rattle.elementary.specs.Sine.{outside};
 ghost use Rattle.origin.specs.Origins.{ORIGINS};
 ghost use Rattle.set.specs.Sizes.{FRAME, FACE-STORE, SPHERE-STORE};
 ghost use Rattle.dodecahedron.specs.Calls.{rowAt, frameConstants, polarAbout, forwardCore, inverseCore, givenFaceWork, givenSphericalWork};
@@ -71,7 +74,7 @@ pub(crate) fn forward_core(
     origin: u8,
 ) -> FaceWork
     requires { ⌜ (length (now frame) ≡ FRAME) × (length (now «face_store») ≡ FACE-STORE) ⌝ }
-    requires { ⌜ (length (now «sphere_store») ≡ SPHERE-STORE) × (origin < 12) ⌝ }
+    requires { ⌜ (length (now «sphere_store») ≡ SPHERE-STORE) × (origin < 12) × (outside (spherical .theta .0) ≡ false) × (outside (spherical .phi .0) ≡ false) ⌝ }
     ensures { λ r. ⌜ givenFaceWork r ≡ forwardCore ieee ORIGINS (now (frame .entry)) (now («face_store» .entry)) (now («sphere_store» .entry)) spherical origin ⌝ }
 {
     let unprojected = to_cartesian(spherical);
@@ -113,14 +116,13 @@ pub(crate) fn inverse_core(
         TakenAnswer::Answered(taken) => {
             let used = taken.used;
             let constants = frame_constants(frame);
-            let unprojected = equal_area::equal_area::inverse(
-                constants,
-                face,
-                taken.face,
-                used.triangle,
-            );
-            let answer = to_spherical(unprojected);
-            SphericalWork::Done(SphericalDone { answer, used })
+            match equal_area::equal_area::inverse(constants, face, taken.face, used.triangle) {
+                PointAnswer::Refused(n) => SphericalWork::Refused(n),
+                PointAnswer::Answered(unprojected) => {
+                    let answer = to_spherical(unprojected);
+                    SphericalWork::Done(SphericalDone { answer, used })
+                }
+            }
         }
     }
 }

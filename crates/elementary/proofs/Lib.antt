@@ -3,4 +3,6 @@ pub mod Fraction
 pub mod Turn
 pub mod Quarters
 pub mod Angles
+pub mod Sizes
+pub mod Inside
 pub mod Values

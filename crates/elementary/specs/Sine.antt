@@ -1,13 +1,42 @@
--- Document 01, "Elementary steps": sine, cosine and tangent, line by line. Definitions only.
+-- Document 01, "Elementary steps": sine, cosine and tangent, line by line, and before them Paper 7's "outside". Definitions only.
 use Prim.Native.Nat.{ℕ, zero, suc, _-_, _%_}
-use mathlib.Core.Bool.{true, false}
+use mathlib.Core.Bool.{Bool, true, false}
 use mathlib.Core.List.{List, [], _∷_}
 use lib.IntN.{ℤ, pos, negsuc}
-use lib.Ieee.{Float, nan, inf, fin, neg}
+use lib.Ieee.{Float, nan, inf, fin, neg, lt}
 use Rattle.arithmetic.specs.Arith.{Arith}
+use Rattle.answer.specs.Given.{Given, answered, refused, refuseIf}
 use Rattle.elementary.specs.declared.sine.SinCos.{SinCos}
+use Rattle.elementary.specs.declared.sine.SineAnswer.{SineAnswer}
+use Rattle.elementary.specs.declared.sine.SineAnswer.the-variants as sine-answer
+use Rattle.elementary.specs.declared.sine.SinCosAnswer.{SinCosAnswer}
+use Rattle.elementary.specs.declared.sine.SinCosAnswer.the-variants as sin-cos-answer
 use Rattle.elementary.specs.Constants.{TAU, FRAC-2-PI, FRAC-PI-2, PI-2-REST, sineFirst, sineRest, cosineFirst, cosineRest}
 use Rattle.elementary.specs.Whole.{roundℤ}
+
+-- Finite, and beyond ±limit: ±limit itself is not, nor is an infinity or a NaN.
+unfoldable pub beyond : Float → Float → Bool
+unfolding lt
+beyond limit nan = false
+beyond limit (inf s) = false
+beyond limit (fin s m e) = lt limit (fin false m e)
+
+-- Paper 7: "finite arguments beyond ±64".
+abbrev pub outside : Float → Bool
+outside x = beyond (fin false 1 (pos 6)) x
+
+-- Paper 7: "Sine and cosine shall answer "outside" for finite arguments beyond ±64." In the calls that can meet it, it is refusal 19.
+unfoldable pub unlessOutside : {X : Type 0} → Float → X → Given X
+unfolding beyond
+unlessOutside x value = refuseIf (outside x) 19 (answered value)
+
+abbrev pub givenSine : SineAnswer → Given Float
+givenSine (sine-answer.Value v) = answered v
+givenSine sine-answer.Outside = refused 19
+
+abbrev pub givenSinCos : SinCosAnswer → Given SinCos
+givenSinCos (sin-cos-answer.Value p) = answered p
+givenSinCos sin-cos-answer.Outside = refused 19
 
 -- "n mod 4 (never negative)"
 unfoldable pub modulo4 : ℤ → ℕ
@@ -77,3 +106,17 @@ module _ (A : Arith) where
   unfoldable pub tan : Float → Float
   unfolding sinCos
   tan x = let p = sinCos x in p .sin ⊘ p .cos
+
+  -- ---- what sine, cosine, both together and tangent answer: 01's value, or "outside"
+
+  unfoldable pub sinCosGiven : Float → Given SinCos
+  sinCosGiven x = unlessOutside x (sinCos x)
+
+  unfoldable pub sinGiven : Float → Given Float
+  sinGiven x = unlessOutside x (sin x)
+
+  unfoldable pub cosGiven : Float → Given Float
+  cosGiven x = unlessOutside x (cos x)
+
+  unfoldable pub tanGiven : Float → Given Float
+  tanGiven x = unlessOutside x (tan x)

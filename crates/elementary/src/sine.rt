@@ -1,12 +1,14 @@
-// Sine, cosine and tangent (document 01, "Elementary steps").
+// Sine, cosine and tangent (document 01, "Elementary steps"). They answer "outside" for finite
+// arguments beyond ±64 (Paper 7); where an argument is proved not to be outside, the functions named
+// `.._inside` give the value alone.
 ghost use mathlib.Core.Path.{_≡_};
-ghost use mathlib.Core.Bool.{true};
+ghost use mathlib.Core.Bool.{true, false};
 ghost use lib.Ieee.{binary64, mul, rem};
 ghost use Rattle.answer.specs.Number.{isFinite};
 ghost use Rattle.arithmetic.specs.Arith.{ieee};
 ghost use Rattle.elementary.specs.Constants.{TAU, FRAC-2-PI, sineFirst, sineRest, cosineFirst, cosineRest};
 ghost use Rattle.elementary.specs.Whole.{roundℤ};
-ghost use Rattle.elementary.specs.Sine.{series, modulo4, wholeFloat, sinCosReduced, sinCos, sin, cos, tan};
+ghost use Rattle.elementary.specs.Sine.{outside, givenSine, givenSinCos, sinGiven, cosGiven, sinCosGiven, tanGiven, series, modulo4, wholeFloat, sinCosReduced, sinCos, sin, cos, tan};
 
 const TAU: f64 = 6.283185307179586;
 
@@ -201,7 +203,21 @@ fn sin_cos_at(k: u64, r: f64) -> SinCos
     }
 }
 
-pub fn sin(x: f64) -> f64
+// Whether x is finite and beyond ±64: 64 itself is not.
+pub fn is_outside(x: f64) -> bool
+    ensures { λ r. ⌜ r ≡ outside x ⌝ }
+{
+    if !answer::is_finite(x) {
+        return false;
+    }
+    64.0 < square_root::signs::abs(x)
+}
+
+// ---- for an argument that is not outside
+
+// The sine.
+pub fn sin_inside(x: f64) -> f64
+    requires { ⌜ outside x ≡ false ⌝ }
     ensures { λ r. ⌜ r ≡ sin ieee x ⌝ }
 {
     if !answer::is_finite(x) {
@@ -211,7 +227,9 @@ pub fn sin(x: f64) -> f64
     sin_at(t.quarter, t.r)
 }
 
-pub fn cos(x: f64) -> f64
+// The cosine.
+pub fn cos_inside(x: f64) -> f64
+    requires { ⌜ outside x ≡ false ⌝ }
     ensures { λ r. ⌜ r ≡ cos ieee x ⌝ }
 {
     if !answer::is_finite(x) {
@@ -222,7 +240,8 @@ pub fn cos(x: f64) -> f64
 }
 
 // Sine and cosine from one reduction.
-pub fn sin_cos(x: f64) -> SinCos
+pub fn sin_cos_inside(x: f64) -> SinCos
+    requires { ⌜ outside x ≡ false ⌝ }
     ensures { λ r. ⌜ r ≡ sinCos ieee x ⌝ }
 {
     if !answer::is_finite(x) {
@@ -233,9 +252,67 @@ pub fn sin_cos(x: f64) -> SinCos
     sin_cos_at(t.quarter, t.r)
 }
 
-pub fn tan(x: f64) -> f64
+// Sine / cosine.
+pub fn tan_inside(x: f64) -> f64
+    requires { ⌜ outside x ≡ false ⌝ }
     ensures { λ r. ⌜ r ≡ tan ieee x ⌝ }
 {
-    let p = sin_cos(x);
+    let p = sin_cos_inside(x);
     p.sin / p.cos
+}
+
+// ---- for every argument
+
+// A sine, cosine or tangent.
+pub enum SineAnswer {
+    Value(f64),
+    // the argument is finite and beyond ±64
+    Outside,
+}
+
+// Both at once.
+pub enum SinCosAnswer {
+    Value(SinCos),
+    // the argument is finite and beyond ±64
+    Outside,
+}
+
+// The sine, or "outside".
+pub fn sin(x: f64) -> SineAnswer
+    ensures { λ r. ⌜ givenSine r ≡ sinGiven ieee x ⌝ }
+{
+    if is_outside(x) {
+        return SineAnswer::Outside;
+    }
+    SineAnswer::Value(sin_inside(x))
+}
+
+// The cosine, or "outside".
+pub fn cos(x: f64) -> SineAnswer
+    ensures { λ r. ⌜ givenSine r ≡ cosGiven ieee x ⌝ }
+{
+    if is_outside(x) {
+        return SineAnswer::Outside;
+    }
+    SineAnswer::Value(cos_inside(x))
+}
+
+// Sine and cosine, or "outside".
+pub fn sin_cos(x: f64) -> SinCosAnswer
+    ensures { λ r. ⌜ givenSinCos r ≡ sinCosGiven ieee x ⌝ }
+{
+    if is_outside(x) {
+        return SinCosAnswer::Outside;
+    }
+    SinCosAnswer::Value(sin_cos_inside(x))
+}
+
+// The tangent, or "outside".
+pub fn tan(x: f64) -> SineAnswer
+    ensures { λ r. ⌜ givenSine r ≡ tanGiven ieee x ⌝ }
+{
+    if is_outside(x) {
+        return SineAnswer::Outside;
+    }
+    SineAnswer::Value(tan_inside(x))
 }

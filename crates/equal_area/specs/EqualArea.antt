@@ -4,7 +4,10 @@ use lib.Ieee.{Float, binary64, ofBits, neg, lt}
 use Rattle.arithmetic.specs.Arith.{Arith}
 use Rattle.arithmetic.specs.Numbers.{0·0, 1·0}
 use Rattle.square_root.specs.Signs.{abs, maxZero}
-use Rattle.elementary.specs.Sine.{sinCos}
+use Rattle.answer.specs.Given.{Given, answered, refused, bind}
+use Rattle.answer.specs.Answer.{numberOf}
+use Rattle.elementary.specs.Sine.{sinCosGiven}
+use Rattle.elementary.specs.declared.sine.SinCos.{SinCos}
 use Rattle.coordinates.specs.Constants.{2·0}
 use Rattle.coordinates.specs.CoordinateTransforms.{faceToBarycentric, barycentricToFace}
 use Rattle.coordinates.specs.Vector.{length, dot, cross, normalize, scale, scaleAndAdd}
@@ -15,6 +18,13 @@ use Rattle.coordinates.specs.declared.coords.FaceTriangle.{FaceTriangle}
 use Rattle.coordinates.specs.declared.coords.SphericalTriangle.{SphericalTriangle}
 use Rattle.equal_area.specs.SphericalPolygon.{sphericalTriangleArea}
 use Rattle.equal_area.specs.declared.equal_area.TriangleConstants.{TriangleConstants}
+use Rattle.equal_area.specs.declared.equal_area.PointAnswer.{PointAnswer}
+use Rattle.equal_area.specs.declared.equal_area.PointAnswer.the-variants as point
+
+-- a point, or the number of the refusal
+abbrev pub givenPoint : PointAnswer → Given Cartesian
+givenPoint (point.Answered p) = answered p
+givenPoint (point.Refused n) = refused (numberOf n)
 
 -- 1e-14
 abbrev pub CORNER-MARGIN : Float
@@ -73,11 +83,10 @@ module _ (A : Arith) where
   unfoldable pub alphaOf : TriangleConstants → Float → Float → Float
   alphaOf k b2 rho = (b2 ⊘ rho) ⊗ k .«area_abc»
 
-  -- P between B and C, in the even orientation, at the angle alpha
-  unfoldable pub pointP : TriangleConstants → Cartesian → Cartesian → Float → Cartesian
-  pointP k b c alpha =
+  -- P between B and C, in the even orientation, at the angle alpha, whose sine and cosine s are
+  unfoldable pub pointP : TriangleConstants → Cartesian → Cartesian → SinCos → Cartesian
+  pointP k b c s =
       let m = k .«alpha_transform» in
-      let s = sinCos A alpha in
       let weightB = m .c1c ⊗ s .cos ⊕ m .c1s ⊗ s .sin ⊕ m .c1o in
       let weightC = m .c2c ⊗ s .cos ⊕ m .c2s ⊗ s .sin ⊕ m .c2o in
       normalize A (scaleAndAdd A (scale A b weightB) c weightC)
@@ -91,24 +100,32 @@ module _ (A : Arith) where
       let weightA = t ⊖ s ⊗ weightP in
       scaleAndAdd A (scale A a weightA) p weightP
 
+  -- the point at the angle alpha, rho from A; Paper 7: 19 where that angle is outside
+  unfoldable pub atAngle : TriangleConstants → Cartesian → Cartesian → Cartesian → Float → Float → Given Cartesian
+  atAngle k a b c alpha rho = bind (sinCosGiven A alpha) λ s. answered (between a (pointP k b c s) rho)
+
   -- where no corner is returned; an odd triangle is normalised by exchanging B and C and the matching weight
-  unfoldable pub inside : TriangleConstants → Barycentric → SphericalTriangle → Cartesian
+  unfoldable pub inside : TriangleConstants → Barycentric → SphericalTriangle → Given Cartesian
   inside k bary t =
       let rho = 1·0 ⊖ bary .u in
       elim (isOdd k t) [
-        | true ↦ between (t .a) (pointP k (t .c) (t .b) (alphaOf k (bary .v) rho)) rho
-        | false ↦ between (t .a) (pointP k (t .b) (t .c) (alphaOf k (bary .w) rho)) rho
+        | true ↦ atAngle k (t .a) (t .c) (t .b) (alphaOf k (bary .v) rho) rho
+        | false ↦ atAngle k (t .a) (t .b) (t .c) (alphaOf k (bary .w) rho) rho
       ]
 
   -- "Inverse returns a, b, c, tried in that order, when u, v, w exceeds 1 − 1e-14"
-  unfoldable pub fromBarycentric : TriangleConstants → Barycentric → SphericalTriangle → Cartesian
+  unfoldable pub fromBarycentric : TriangleConstants → Barycentric → SphericalTriangle → Given Cartesian
   fromBarycentric k bary t =
       let threshold = 1·0 ⊖ CORNER-MARGIN in
       elim (lt threshold (bary .u)) [
-        | true ↦ t .a
-        | false ↦ elim (lt threshold (bary .v)) [ true ↦ t .b | false ↦ elim (lt threshold (bary .w)) [ true ↦ t .c | false ↦ inside k bary t ] ]
+        | true ↦ answered (t .a)
+        | false ↦
+            elim (lt threshold (bary .v)) [
+              | true ↦ answered (t .b)
+              | false ↦ elim (lt threshold (bary .w)) [ true ↦ answered (t .c) | false ↦ inside k bary t ]
+            ]
       ]
 
   -- EqualAreaProjection::inverse
-  unfoldable pub inverse : TriangleConstants → Face → FaceTriangle → SphericalTriangle → Cartesian
+  unfoldable pub inverse : TriangleConstants → Face → FaceTriangle → SphericalTriangle → Given Cartesian
   inverse k f face t = fromBarycentric k (faceToBarycentric A f face) t

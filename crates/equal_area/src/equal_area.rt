@@ -2,6 +2,7 @@
 // goes to the face triangle by way of P, where the great circles through A and the point, and through
 // B and C, meet.
 use crate::spherical_polygon::spherical_triangle_area;
+use answer::Refusal;
 use coordinates::coordinate_transforms::barycentric_to_face;
 use coordinates::coordinate_transforms::face_to_barycentric;
 use coordinates::coords::Barycentric;
@@ -15,13 +16,21 @@ use coordinates::vector::length;
 use coordinates::vector::normalize;
 use coordinates::vector::scale;
 use coordinates::vector::scale_and_add;
+use elementary::sine::SinCos;
+use elementary::sine::SinCosAnswer;
 use elementary::sine::sin_cos;
 use square_root::root::sqrt;
 use square_root::signs::abs;
 use square_root::signs::max_zero;
 ghost use mathlib.Core.Path.{_≡_};
 ghost use Rattle.arithmetic.specs.Arith.{ieee};
-ghost use Rattle.equal_area.specs.EqualArea.{computeConstants, oneOver, forward, isOdd, pointP, between, inside, fromBarycentric, inverse};
+ghost use Rattle.equal_area.specs.EqualArea.{givenPoint, computeConstants, oneOver, forward, isOdd, pointP, between, atAngle, inside, fromBarycentric, inverse};
+
+// A point of the sphere, or refusal 19.
+pub enum PointAnswer {
+    Answered(Cartesian),
+    Refused(Refusal),
+}
 
 // What the maps take from the one canonical triangle: all face triangles are congruent.
 pub struct TriangleConstants {
@@ -129,11 +138,10 @@ fn is_odd(constants: TriangleConstants, triangle: SphericalTriangle) -> bool
 }
 
 // P between B and C, in the even orientation, at the angle alpha.
-fn point_p(constants: TriangleConstants, b: Cartesian, c: Cartesian, alpha: f64) -> Cartesian
-    ensures { λ r. ⌜ r ≡ pointP ieee constants b c alpha ⌝ }
+fn point_p(constants: TriangleConstants, b: Cartesian, c: Cartesian, s: SinCos) -> Cartesian
+    ensures { λ r. ⌜ r ≡ pointP ieee constants b c s ⌝ }
 {
     let m = constants.alpha_transform;
-    let s = sin_cos(alpha);
     let weight_b = m.c1c * s.cos + m.c1s * s.sin + m.c1o;
     let weight_c = m.c2c * s.cos + m.c2s * s.sin + m.c2o;
     normalize(scale_and_add(scale(b, weight_b), c, weight_c))
@@ -150,10 +158,33 @@ fn between(a: Cartesian, p: Cartesian, rho: f64) -> Cartesian
     scale_and_add(scale(a, weight_a), p, weight_p)
 }
 
+// The point at the angle alpha, rho from A. The angle can be anything, so sine may answer "outside".
+fn at_angle(
+    constants: TriangleConstants,
+    a: Cartesian,
+    b: Cartesian,
+    c: Cartesian,
+    alpha: f64,
+    rho: f64,
+) -> PointAnswer
+    ensures { λ r. ⌜ givenPoint r ≡ atAngle ieee constants a b c alpha rho ⌝ }
+{
+    match sin_cos(alpha) {
+        SinCosAnswer::Outside => PointAnswer::Refused(Refusal::AngleOutside),
+        SinCosAnswer::Value(s) => {
+            PointAnswer::Answered(between(a, point_p(constants, b, c, s), rho))
+        }
+    }
+}
+
 // The point of the sphere where no corner is returned. An odd triangle is normalised by exchanging B
 // and C and the matching weight.
-fn inside(constants: TriangleConstants, bary: Barycentric, triangle: SphericalTriangle) -> Cartesian
-    ensures { λ r. ⌜ r ≡ inside ieee constants bary triangle ⌝ }
+fn inside(
+    constants: TriangleConstants,
+    bary: Barycentric,
+    triangle: SphericalTriangle,
+) -> PointAnswer
+    ensures { λ r. ⌜ givenPoint r ≡ inside ieee constants bary triangle ⌝ }
 {
     let a = triangle.a;
     let b = triangle.b;
@@ -161,10 +192,10 @@ fn inside(constants: TriangleConstants, bary: Barycentric, triangle: SphericalTr
     let rho = 1.0 - bary.u;
     if is_odd(constants, triangle) {
         let alpha = (bary.v / rho) * constants.area_abc;
-        between(a, point_p(constants, c, b, alpha), rho)
+        at_angle(constants, a, c, b, alpha, rho)
     } else {
         let alpha = (bary.w / rho) * constants.area_abc;
-        between(a, point_p(constants, b, c, alpha), rho)
+        at_angle(constants, a, b, c, alpha, rho)
     }
 }
 
@@ -173,18 +204,21 @@ fn from_barycentric(
     constants: TriangleConstants,
     bary: Barycentric,
     triangle: SphericalTriangle,
-) -> Cartesian
-    ensures { λ r. ⌜ r ≡ fromBarycentric ieee constants bary triangle ⌝ }
+) -> PointAnswer
+    ensures { λ r. ⌜ givenPoint r ≡ fromBarycentric ieee constants bary triangle ⌝ }
 {
     let threshold = 1.0 - 1e-14;
     if bary.u > threshold {
-        return triangle.a;
+        let a = triangle.a;
+        return PointAnswer::Answered(a);
     }
     if bary.v > threshold {
-        return triangle.b;
+        let b = triangle.b;
+        return PointAnswer::Answered(b);
     }
     if bary.w > threshold {
-        return triangle.c;
+        let c = triangle.c;
+        return PointAnswer::Answered(c);
     }
     inside(constants, bary, triangle)
 }
@@ -195,8 +229,8 @@ pub fn inverse(
     face_point: Face,
     face_triangle: FaceTriangle,
     spherical_triangle: SphericalTriangle,
-) -> Cartesian
-    ensures { λ r. ⌜ r ≡ inverse ieee constants «face_point» «face_triangle» «spherical_triangle» ⌝ }
+) -> PointAnswer
+    ensures { λ r. ⌜ givenPoint r ≡ inverse ieee constants «face_point» «face_triangle» «spherical_triangle» ⌝ }
 {
     let bary = face_to_barycentric(face_point, face_triangle);
     from_barycentric(constants, bary, spherical_triangle)

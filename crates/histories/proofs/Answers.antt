@@ -70,7 +70,8 @@ module _ (w v : Since) (s n : Buffers) (good : Good w s) (also : Good v n) where
       let e = same-used o (toPolar ieee f) h in
       λ j.
       bind (e j) λ u.
-      answered (record { answer = toSpherical ieee (inverse ieee (frameConstants ieee (same-frame j)) f (same-faces u j) (u .triangle)); used = u })
+      bind (inverse ieee (frameConstants ieee (same-frame j)) f (same-faces u j) (u .triangle)) λ p.
+      answered (record { answer = toSpherical ieee p; used = u })
 
   -- ---- the calls
 

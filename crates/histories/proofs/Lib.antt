@@ -11,3 +11,4 @@ pub mod Shown
 pub mod Counts
 pub mod Consequences
 pub mod UsedLast
+pub mod SineArguments

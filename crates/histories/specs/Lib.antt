@@ -4,3 +4,4 @@ pub mod Since
 pub mod Defined
 pub mod EveryList
 pub mod Consequences
+pub mod SineArguments

@@ -1,3 +1,4 @@
--- The marked points, and samples of the elementary steps.
+-- The marked points, the limit of Paper 7, and samples of the elementary steps.
 pub mod Marked
+pub mod Outside
 pub mod Samples

@@ -5,3 +5,4 @@ pub mod Least
 pub mod AxisSines
 pub mod Shared
 pub mod LowestNearest
+pub mod Sizes

@@ -5,12 +5,13 @@ use answer::Check;
 use answer::Refusal;
 use coordinates::base::Radians;
 use coordinates::spherical::Spherical;
-use elementary::sine::sin;
+use elementary::sine::sin_inside;
 ghost use mathlib.Core.Path.{_≡_};
+ghost use mathlib.Core.Bool.{false};
 ghost use lib.ListN.{length};
 ghost use lib.Ieee.{binary64, mul, div};
 ghost use Rattle.arithmetic.specs.Arith.{ieee};
-ghost use Rattle.elementary.specs.Sine.{sin};
+ghost use Rattle.elementary.specs.Sine.{outside, sin};
 ghost use Rattle.coordinates.specs.Constants.{2·0};
 ghost use Rattle.origin.specs.Origins.{ORIGINS, originAt};
 ghost use Rattle.origin.specs.Nearest.{givenOrigin, least, haversine, haversines, nearestOrigin, nearestGiven};
@@ -142,6 +143,8 @@ pub fn get_origin(id: u8) -> Origin
 
 // Modified haversine formula of the Rust: it grows with the angle between the two.
 pub fn haversine(point: Spherical, axis: Spherical) -> f64
+    requires { ⌜ (outside (point .theta .0) ≡ false) × (outside (point .phi .0) ≡ false) ⌝ }
+    requires { ⌜ (outside (axis .theta .0) ≡ false) × (outside (axis .phi .0) ≡ false) ⌝ }
     ensures { λ r. ⌜ r ≡ haversine ieee point axis ⌝ }
 {
     let theta = point.theta.0;
@@ -150,16 +153,17 @@ pub fn haversine(point: Spherical, axis: Spherical) -> f64
     let phi2 = axis.phi.0;
     let dtheta = theta2 - theta;
     let dphi = phi2 - phi;
-    let a1 = sin(dphi / 2.0);
-    let a2 = sin(dtheta / 2.0);
-    a1 * a1 + a2 * a2 * sin(phi) * sin(phi2)
+    let a1 = sin_inside(dphi / 2.0);
+    let a2 = sin_inside(dtheta / 2.0);
+    a1 * a1 + a2 * a2 * sin_inside(phi) * sin_inside(phi2)
 }
 
 // The square of the sine of half an angle.
 fn half_sine_squared(d: f64) -> f64
+    requires { ⌜ outside (div binary64 d 2·0) ≡ false ⌝ }
     ensures { λ r. ⌜ r ≡ mul binary64 (sin ieee (div binary64 d 2·0)) (sin ieee (div binary64 d 2·0)) ⌝ }
 {
-    let a = sin(d / 2.0);
+    let a = sin_inside(d / 2.0);
     a * a
 }
 
@@ -171,11 +175,12 @@ const SOUTH_SINE: f64 = 1.2246467991473532e-16;
 // From the point to each of the twelve axes. They share four values of phi and ten of theta, so
 // that 15 sines do for 48.
 fn haversines(point: Spherical) -> [f64; 12]
+    requires { ⌜ (outside (point .theta .0) ≡ false) × (outside (point .phi .0) ≡ false) ⌝ }
     ensures { λ r. ⌜ r ≡ haversines ieee ORIGINS point ⌝ }
 {
     let theta = point.theta.0;
     let phi = point.phi.0;
-    let s = sin(phi);
+    let s = sin_inside(phi);
     let north = half_sine_squared(0.0 - phi);
     let upper = half_sine_squared(1.1071487177940904 - phi);
     let lower = half_sine_squared(2.0344439357957027 - phi);
@@ -227,6 +232,7 @@ fn least(distances: &[f64]) -> u8
 
 // The lowest-numbered origin with the least haversine, without the checks of the call.
 pub fn find_nearest_origin(point: Spherical) -> u8
+    requires { ⌜ (outside (point .theta .0) ≡ false) × (outside (point .phi .0) ≡ false) ⌝ }
     ensures { λ r. ⌜ r ≡ nearestOrigin ieee ORIGINS point ⌝ }
 {
     let distances = haversines(point);

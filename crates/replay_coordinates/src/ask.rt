@@ -10,6 +10,7 @@ use coordinates::lonlat::LonLat;
 use coordinates::polar::Polar;
 use coordinates::spherical::Spherical;
 use coordinates::vector;
+use elementary::sine::is_outside;
 use replay::outcome::Outcome;
 use replay::outcome::one;
 use replay::outcome::refused;
@@ -47,7 +48,11 @@ pub fn to_polar(words: &[u8; 96]) -> Outcome {
 }
 
 pub fn to_face(words: &[u8; 96]) -> Outcome {
-    of_face(coordinate_transforms::to_face(replay_arguments::polar(words)))
+    let p = replay_arguments::polar(words);
+    if is_outside(p.gamma.0) {
+        return refused(19);
+    }
+    of_face(coordinate_transforms::to_face(p))
 }
 
 pub fn face_to_barycentric(words: &[u8; 96]) -> Outcome {
@@ -66,7 +71,14 @@ pub fn to_spherical(words: &[u8; 96]) -> Outcome {
 }
 
 pub fn to_cartesian(words: &[u8; 96]) -> Outcome {
-    let c = coordinate_transforms::to_cartesian(replay_arguments::spherical(words, 0));
+    let s = replay_arguments::spherical(words, 0);
+    if is_outside(s.theta.0) {
+        return refused(19);
+    }
+    if is_outside(s.phi.0) {
+        return refused(19);
+    }
+    let c = coordinate_transforms::to_cartesian(s);
     three(c.0.x, c.0.y, c.0.z)
 }
 
@@ -76,17 +88,29 @@ pub fn normalize_longitude(words: &[u8; 96]) -> Outcome {
 }
 
 pub fn authalic_forward(words: &[u8; 96]) -> Outcome {
-    let r = authalic::forward(replay_arguments::radians(words));
+    let phi = replay_arguments::radians(words);
+    if is_outside(phi.0) {
+        return refused(19);
+    }
+    let r = authalic::forward(phi);
     one(r.0)
 }
 
 pub fn authalic_inverse(words: &[u8; 96]) -> Outcome {
-    let r = authalic::inverse(replay_arguments::radians(words));
+    let phi = replay_arguments::radians(words);
+    if is_outside(phi.0) {
+        return refused(19);
+    }
+    let r = authalic::inverse(phi);
     one(r.0)
 }
 
 pub fn gnomonic_forward(words: &[u8; 96]) -> Outcome {
-    of_polar(gnomonic::forward(replay_arguments::spherical(words, 0)))
+    let s = replay_arguments::spherical(words, 0);
+    if is_outside(s.phi.0) {
+        return refused(19);
+    }
+    of_polar(gnomonic::forward(s))
 }
 
 pub fn gnomonic_inverse(words: &[u8; 96]) -> Outcome {

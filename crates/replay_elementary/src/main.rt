@@ -2,15 +2,25 @@
 // argument, and compares the answers bit for bit. It writes a line for each function: how many answers were compared, and
 // how many differ. It shows the first three records of each function that differ, and says so where the list is
 // malformed.
+use elementary::sine::SinCosAnswer;
+use elementary::sine::SineAnswer;
 use elementary::sine::sin_cos;
 use replay::outcome::Outcome;
 use replay::outcome::one;
+use replay::outcome::refused;
 use replay::outcome::two;
 use replay::record;
 use replay::record::Next;
 use replay::record::argument;
 use replay::report;
 use replay::tally;
+
+fn of_sine(given: SineAnswer) -> Outcome {
+    match given {
+        SineAnswer::Value(v) => one(v),
+        SineAnswer::Outside => refused(19),
+    }
+}
 
 // The outcome of the function with this number.
 fn outcome(number: u8, words: &[u8; 96]) -> Outcome {
@@ -21,16 +31,16 @@ fn outcome(number: u8, words: &[u8; 96]) -> Outcome {
         3 => one(elementary::whole::floor(x)),
         4 => one(elementary::whole::round(x)),
         5 => one(square_root::root::sqrt(x)),
-        6 => one(elementary::sine::sin(x)),
-        7 => one(elementary::sine::cos(x)),
-        8 => one(elementary::sine::tan(x)),
+        6 => of_sine(elementary::sine::sin(x)),
+        7 => of_sine(elementary::sine::cos(x)),
+        8 => of_sine(elementary::sine::tan(x)),
         9 => one(elementary::arctangent::core(x)),
         10 => one(elementary::arctangent::atan(x)),
         11 => one(elementary::arctangent::atan2(x, argument(words, 1))),
-        _ => {
-            let both = sin_cos(x);
-            two(both.sin, both.cos)
-        }
+        _ => match sin_cos(x) {
+            SinCosAnswer::Value(both) => two(both.sin, both.cos),
+            SinCosAnswer::Outside => refused(19),
+        },
     }
 }
 

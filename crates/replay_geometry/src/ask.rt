@@ -1,4 +1,5 @@
 // Nearest and the functions on rotations and triangles, each at a record's arguments.
+use elementary::sine::is_outside;
 use origin::origin::OriginAnswer;
 use origin::utils::Quat;
 use replay::outcome::Outcome;
@@ -27,7 +28,20 @@ pub fn nearest(words: &[u8; 96]) -> Outcome {
 
 pub fn haversine(words: &[u8; 96]) -> Outcome {
     let point = replay_arguments::spherical(words, 0);
-    one(origin::origin::haversine(point, replay_arguments::spherical(words, 2)))
+    let axis = replay_arguments::spherical(words, 2);
+    if is_outside(point.theta.0) {
+        return refused(19);
+    }
+    if is_outside(point.phi.0) {
+        return refused(19);
+    }
+    if is_outside(axis.theta.0) {
+        return refused(19);
+    }
+    if is_outside(axis.phi.0) {
+        return refused(19);
+    }
+    one(origin::origin::haversine(point, axis))
 }
 
 fn quat(words: &[u8; 96]) -> Quat {

@@ -1,7 +1,7 @@
 // The triangle that a point belongs to, and whether it lies beyond the face's edge.
 use coordinates::base::Radians;
 use coordinates::polar::Polar;
-use elementary::sine::cos;
+use elementary::sine::cos_inside;
 use elementary::whole::floor;
 use elementary::whole::round;
 use square_root::signs::abs;
@@ -70,6 +70,6 @@ pub fn should_reflect(polar: Polar) -> bool
 {
     let gamma = polar.gamma;
     let beta = normalize_gamma(gamma);
-    let x = polar.rho * cos(beta.0);
+    let x = polar.rho * cos_inside(beta.0);
     x > DISTANCE_TO_EDGE
 }

@@ -18,9 +18,12 @@ use set::sizes::FACE_WIDTH;
 use set::sizes::SPHERE_WIDTH;
 use stores::slots::is_filled;
 ghost use mathlib.Core.Path.{_≡_};
+ghost use mathlib.Core.Bool.{false};
 ghost use Prim.Native.Nat.{_<_};
 ghost use lib.ListN.{length};
 ghost use Rattle.arithmetic.specs.Arith.{ieee};
+ghost use Rattle.elementary.specs.Sine.{beyond};
+ghost use Rattle.coordinates.specs.Constants.{8·0};
 ghost use Rattle.crs.specs.Frame.{givenVertex};
 ghost use Rattle.set.specs.Sizes.{FACE-SLOTS, FACE-STORE, SPHERE-SLOTS, SPHERE-STORE};
 ghost use Rattle.stores.specs.Slots.{faceIn, sphereIn};
@@ -104,6 +107,7 @@ pub(crate) fn take_face(store: &[f64], slot: usize) -> FaceTriangle
 
 // A corner of a face triangle, turned to the origin and looked up in the frame.
 fn corner_vertex(frame: &[f64], origin: Origin, corner: Face) -> VertexAnswer
+    requires { ⌜ beyond 8·0 (origin .angle .0) ≡ false ⌝ }
     ensures { λ r. ⌜ givenVertex r ≡ cornerVertex ieee (now (frame .entry)) origin corner ⌝ }
 {
     let polar = to_polar(corner);
@@ -117,6 +121,7 @@ fn corner_vertex(frame: &[f64], origin: Origin, corner: Face) -> VertexAnswer
 }
 
 fn build_sphere(frame: &[f64], origin: Origin, t: FaceTriangle) -> TriangleAnswer
+    requires { ⌜ beyond 8·0 (origin .angle .0) ≡ false ⌝ }
     ensures { λ r. ⌜ givenTriangle r ≡ sphereBuilt ieee (now (frame .entry)) origin t ⌝ }
 {
     match corner_vertex(frame, origin, t.a) {
@@ -144,6 +149,7 @@ pub(crate) fn take_sphere(
 ) -> TriangleAnswer
     requires { ⌜ (slot < SPHERE-SLOTS) × (length (now «sphere_store») ≡ SPHERE-STORE) ⌝ }
     requires { ⌜ (source < FACE-SLOTS) × (length (now «face_store») ≡ FACE-STORE) ⌝ }
+    requires { ⌜ beyond 8·0 (origin .angle .0) ≡ false ⌝ }
     ensures { λ r. ⌜ givenTriangle r ≡ sphereTaken ieee (now (frame .entry)) (now («face_store» .entry)) (now («sphere_store» .entry)) origin slot source ⌝ }
 {
     let at = slot * SPHERE_WIDTH;

@@ -6,13 +6,13 @@ use Rattle.coordinates.proofs.authalic.apply_coefficients.Tie as tie
 
 returns : tie.Need-returns
 unfolding applyCoefficients
-returns c = rw (c .before .sin-cos .ensures)
+returns c = rw (c .before .sin-cos-inside .ensures)
 
 pub apply-coefficients-spec : {M : Type 1} → statement M
 apply-coefficients-spec =
     tie.close
     (tie.spec
-    (λ c κs. search needs)
+    (λ c κs. c .pre)
     (λ c. search needs)
     (λ c. search needs)
     (λ c. search needs)

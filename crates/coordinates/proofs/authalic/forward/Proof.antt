@@ -6,4 +6,4 @@ use Rattle.coordinates.proofs.authalic.forward.Tie as tie
 
 pub forward-spec : {M : Type 1} → statement M
 unfolding authalicForward ofBits
-forward-spec = tie.close (tie.spec (λ c κs. tt) (λ c. c .apply-coefficients .ensures))
+forward-spec = tie.close (tie.spec (λ c κs. c .pre) (λ c. c .apply-coefficients .ensures))

@@ -6,4 +6,4 @@ use Rattle.coordinates.proofs.authalic.inverse.Tie as tie
 
 pub inverse-spec : {M : Type 1} → statement M
 unfolding authalicInverse ofBits
-inverse-spec = tie.close (tie.spec (λ c κs. tt) (λ c. c .apply-coefficients .ensures))
+inverse-spec = tie.close (tie.spec (λ c κs. c .pre) (λ c. c .apply-coefficients .ensures))

@@ -5,4 +5,4 @@ use Rattle.coordinates.proofs.coordinate_transforms.to_face.Tie as tie
 
 pub to-face-spec : {M : Type 1} → statement M
 unfolding toFace
-to-face-spec = tie.close (tie.spec (λ c κs. tt) (λ c. rw (c .before .before .sin-cos .ensures)))
+to-face-spec = tie.close (tie.spec (λ c κs. c .pre) (λ c. rw (c .before .before .sin-cos-inside .ensures)))

@@ -5,4 +5,4 @@ use Rattle.coordinates.proofs.gnomonic.forward.Tie as tie
 
 pub forward-spec : {M : Type 1} → statement M
 unfolding gnomonicForward
-forward-spec = tie.close (tie.spec (λ c κs. tt) (λ c. rw (c .tan .ensures)))
+forward-spec = tie.close (tie.spec (λ c κs. c .before .pre) (λ c. rw (c .tan-inside .ensures)))

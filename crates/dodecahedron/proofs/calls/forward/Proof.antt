@@ -3,6 +3,7 @@ use mathlib.Core.Path.{refl, sym, ap, _∙_}
 use borrow.Author.Needs.{needs}
 use Rattle.answer.specs.Answer.{givenCheck}
 use Rattle.arithmetic.specs.Arith.{ieee}
+use Rattle.coordinates.proofs.Sizes.{passed-inside}
 use Rattle.origin.specs.Origins.{ORIGINS}
 use Rattle.set.specs.Checks.{givenFace}
 use Rattle.set.proofs.Lengths.{set-fits}
@@ -23,7 +24,10 @@ returns-2 c =
     rw ((forward-is ieee ORIGINS (a .frame .now) (a .face-store .now) (a .sphere-store .now) (a .origin) (a .spherical)) ∙ second-refused _ _ _ _ _ (sym (c .before .before .before .before .before .before .check-call .ensures) ∙ ap givenCheck (c .before .before .before .before .enum-told .given .1)) (sym (c .before .before .before .check-spherical .ensures) ∙ ap givenCheck (c .before .position .given .1))) (refl, (refl, refl))
 
 forward-core-requires : tie.Need-forward-core-requires
-forward-core-requires c κs = set-fits _ _ _ _ (sym (c .before .before .before .before .before .before .before .check-call .ensures) ∙ ap givenCheck (c .before .before .before .before .before .enum-told .given .1))
+forward-core-requires c κs =
+    let l = set-fits _ _ _ _ (sym (c .before .before .before .before .before .before .before .check-call .ensures) ∙ ap givenCheck (c .before .before .before .before .before .enum-told .given .1)) in
+    let s = passed-inside (c .before .before .before .before .before .before .before .before .before .before .before .before .before .args .spherical) (sym (c .before .before .before .before .check-spherical .ensures) ∙ ap givenCheck (c .before .before .enum-told2 .given .1)) in
+    (l .0, (l .1 .0, l .1 .1, s .0, s .1))
 
 returns-3 : tie.Need-returns-3
 returns-3 c =

@@ -8,6 +8,7 @@ use Rattle.coordinates.specs.Conversions.{givenLonLat, finiteLonLat}
 use Rattle.set.proofs.Lengths.{set-fits}
 use Rattle.dodecahedron.specs.Calls.{givenSphericalWork}
 use Rattle.dodecahedron.proofs.Worked.{inverse-kept}
+use Rattle.dodecahedron.proofs.Sizes.{inverse-colatitude}
 use Rattle.dodecahedron.proofs.Ended.{first-refused, second-refused, core-refused, answer-refused, done, unplace-is}
 use Rattle.dodecahedron.proofs.calls.unplace.Statement.{statement}
 use Rattle.dodecahedron.proofs.calls.unplace.Tie as tie
@@ -24,6 +25,9 @@ returns-2 c =
 
 inverse-core-requires : tie.Need-inverse-core-requires
 inverse-core-requires c κs = set-fits _ _ _ _ (sym (c .before .before .before .before .before .before .before .check-call .ensures) ∙ ap givenCheck (c .before .before .before .before .before .enum-told .given .1))
+
+to-lon-lat-requires : tie.Need-to-lon-lat-requires
+to-lon-lat-requires c κs = inverse-colatitude ORIGINS _ _ _ _ _ _ (sym (c .before .before .before .inverse-core .ensures) ∙ ap givenSphericalWork (c .before .done .given .1))
 
 returns-3 : tie.Need-returns-3
 returns-3 c =
@@ -43,4 +47,4 @@ returns-5 c =
     rw ((unplace-is ieee ORIGINS (a .frame .now) (a .face-store .now) (a .sphere-store .now) (a .origin) (a .face)) ∙ core-refused _ _ _ _ _ (sym (c .before .before .before .before .before .before .before .before .before .before .before .check-call .ensures) ∙ ap givenCheck (c .before .before .before .before .before .before .before .before .before .enum-told .given .1)) (sym (c .before .before .before .before .before .before .before .before .check-face .ensures) ∙ ap givenCheck (c .before .before .before .before .before .before .enum-told2 .given .1)) (sym (c .before .before .before .inverse-core .ensures) ∙ ap givenSphericalWork (c .before .n .given .1))) (refl, (refl, refl))
 
 pub unplace-spec : {M : Type 1} → statement M
-unplace-spec = tie.close (tie.spec (λ c κs. search needs) (λ c. search needs) (λ c. search needs) (λ c. search needs) returns (λ c. search needs) (λ c κs. search needs) (λ c. search needs) (λ c. search needs) (λ c. search needs) returns-2 (λ c. search needs) inverse-core-requires (λ c. search needs) (λ c κs. search needs) (λ c κs. search needs) (λ c. search needs) (λ c. search needs) (λ c. search needs) returns-3 (λ c. search needs) (λ c κs. search needs) (λ c. search needs) (λ c. search needs) (λ c. search needs) returns-4 (λ c. search needs) (λ c. search needs) returns-5)
+unplace-spec = tie.close (tie.spec (λ c κs. search needs) (λ c. search needs) (λ c. search needs) (λ c. search needs) returns (λ c. search needs) (λ c κs. search needs) (λ c. search needs) (λ c. search needs) (λ c. search needs) returns-2 (λ c. search needs) inverse-core-requires (λ c. search needs) to-lon-lat-requires (λ c κs. search needs) (λ c. search needs) (λ c. search needs) (λ c. search needs) returns-3 (λ c. search needs) (λ c κs. search needs) (λ c. search needs) (λ c. search needs) (λ c. search needs) returns-4 (λ c. search needs) (λ c. search needs) returns-5)

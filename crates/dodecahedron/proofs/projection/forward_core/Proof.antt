@@ -27,5 +27,8 @@ returns-2 c =
     rw (c .forward .ensures, c .before .frame-constants .ensures, c .before .before .cross .ensures, c .before .before .before .before .before .before .before .before .before .before .before .before .before .to-cartesian .ensures)
     (forward-done ieee ORIGINS (a .frame .now) (a .face-store .now) (a .sphere-store .now) (a .origin) (a .spherical) _ (fits-set _ _ _ _ (h .0 .0) (h .0 .1) (h .1 .0) (h .1 .1)) (sym e ∙ ap givenTaken (c .before .before .before .before .before .before .before .before .taken .given .1)))
 
+to-cartesian-requires : tie.Need-to-cartesian-requires
+to-cartesian-requires c κs = (c .before .before .before .pre .1 .2, c .before .before .before .pre .1 .3)
+
 pub forward-core-spec : {M : Type 1} → statement M
-forward-core-spec = tie.close (tie.spec (λ c κs. tt) (λ c κs. tt) (λ c κs. tt) (λ c κs. search needs) (λ c. search needs) (λ c. search needs) (λ c κs. tt) frame-constants-requires (λ c κs. tt) returns returns-2)
+forward-core-spec = tie.close (tie.spec to-cartesian-requires (λ c κs. tt) (λ c κs. tt) (λ c κs. search needs) (λ c. search needs) (λ c. search needs) (λ c κs. tt) frame-constants-requires (λ c κs. tt) returns returns-2)

@@ -1,23 +1,20 @@
 -- `cos` meets its contract. Assumes nothing.
-use mathlib.Core.Path.{sym, ap, _∙_}
-use borrow.Author.Tests.{not-true, not-false}
-use Rattle.elementary.specs.declared.sine.SinCos.{SinCos}
-use Rattle.elementary.specs.Sine.{cos}
-use Rattle.square_root.proofs.SignBit.{zero-by-zero}
-use Rattle.elementary.proofs.Quarters.{otherwise-nan}
+use mathlib.Core.Path.{sym, _∙_}
+use Rattle.elementary.specs.Sine.{cosGiven}
+use Rattle.elementary.proofs.Inside.{is-refused, is-value}
 use Rattle.elementary.proofs.sine.cos.Statement.{statement}
 use Rattle.elementary.proofs.sine.cos.Tie as tie
 
 returns : tie.Need-returns
-unfolding cos
-returns c = zero-by-zero ∙ sym (ap (λ (p : SinCos). p .cos) (otherwise-nan _ (sym (c .before .is-finite .ensures) ∙ not-true _ (c .if1 .taken))))
+unfolding cosGiven
+returns c = is-refused _ _ (sym (c .before .is-outside .ensures) ∙ c .if1 .taken)
 
-to-quarter-requires : tie.Need-to-quarter-requires
-to-quarter-requires c κs = sym (c .before .is-finite .ensures) ∙ not-false _ (c .if1 .left)
+cos-inside-requires : tie.Need-cos-inside-requires
+cos-inside-requires c κs = sym (c .before .is-outside .ensures) ∙ c .if1 .left
 
 returns-2 : tie.Need-returns-2
-unfolding cos
-returns-2 c = c .cos-at .ensures ∙ ap (λ (p : SinCos). p .cos) (c .before .to-quarter .ensures)
+unfolding cosGiven
+returns-2 c = is-value _ _ _ (sym (c .before .before .is-outside .ensures) ∙ c .before .if1 .left) (c .cos-inside .ensures)
 
 pub cos-spec : {M : Type 1} → statement M
-cos-spec = tie.close (tie.spec (λ c κs. tt) returns to-quarter-requires (λ c κs. tt) returns-2)
+cos-spec = tie.close (tie.spec (λ c κs. tt) returns cos-inside-requires returns-2)

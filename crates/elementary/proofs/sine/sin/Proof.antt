@@ -1,23 +1,20 @@
 -- `sin` meets its contract. Assumes nothing.
-use mathlib.Core.Path.{sym, ap, _∙_}
-use borrow.Author.Tests.{not-true, not-false}
-use Rattle.elementary.specs.declared.sine.SinCos.{SinCos}
-use Rattle.elementary.specs.Sine.{sin}
-use Rattle.square_root.proofs.SignBit.{zero-by-zero}
-use Rattle.elementary.proofs.Quarters.{otherwise-nan}
+use mathlib.Core.Path.{sym, _∙_}
+use Rattle.elementary.specs.Sine.{sinGiven}
+use Rattle.elementary.proofs.Inside.{is-refused, is-value}
 use Rattle.elementary.proofs.sine.sin.Statement.{statement}
 use Rattle.elementary.proofs.sine.sin.Tie as tie
 
 returns : tie.Need-returns
-unfolding sin
-returns c = zero-by-zero ∙ sym (ap (λ (p : SinCos). p .sin) (otherwise-nan _ (sym (c .before .is-finite .ensures) ∙ not-true _ (c .if1 .taken))))
+unfolding sinGiven
+returns c = is-refused _ _ (sym (c .before .is-outside .ensures) ∙ c .if1 .taken)
 
-to-quarter-requires : tie.Need-to-quarter-requires
-to-quarter-requires c κs = sym (c .before .is-finite .ensures) ∙ not-false _ (c .if1 .left)
+sin-inside-requires : tie.Need-sin-inside-requires
+sin-inside-requires c κs = sym (c .before .is-outside .ensures) ∙ c .if1 .left
 
 returns-2 : tie.Need-returns-2
-unfolding sin
-returns-2 c = c .sin-at .ensures ∙ ap (λ (p : SinCos). p .sin) (c .before .to-quarter .ensures)
+unfolding sinGiven
+returns-2 c = is-value _ _ _ (sym (c .before .before .is-outside .ensures) ∙ c .before .if1 .left) (c .sin-inside .ensures)
 
 pub sin-spec : {M : Type 1} → statement M
-sin-spec = tie.close (tie.spec (λ c κs. tt) returns to-quarter-requires (λ c κs. tt) returns-2)
+sin-spec = tie.close (tie.spec (λ c κs. tt) returns sin-inside-requires returns-2)

@@ -1,19 +1,20 @@
 -- `sin_cos` meets its contract. Assumes nothing.
 use mathlib.Core.Path.{sym, _∙_}
-use borrow.Author.Tests.{not-true, not-false}
-use Rattle.square_root.proofs.SignBit.{zero-by-zero}
-use Rattle.elementary.proofs.Quarters.{otherwise-nan}
+use Rattle.elementary.specs.Sine.{sinCosGiven}
+use Rattle.elementary.proofs.Inside.{is-refused, is-value}
 use Rattle.elementary.proofs.sine.sin_cos.Statement.{statement}
 use Rattle.elementary.proofs.sine.sin_cos.Tie as tie
 
 returns : tie.Need-returns
-returns c = rw (zero-by-zero, otherwise-nan _ (sym (c .before .is-finite .ensures) ∙ not-true _ (c .if1 .taken)))
+unfolding sinCosGiven
+returns c = is-refused _ _ (sym (c .before .is-outside .ensures) ∙ c .if1 .taken)
 
-to-quarter-requires : tie.Need-to-quarter-requires
-to-quarter-requires c κs = sym (c .before .is-finite .ensures) ∙ not-false _ (c .if1 .left)
+sin-cos-inside-requires : tie.Need-sin-cos-inside-requires
+sin-cos-inside-requires c κs = sym (c .before .is-outside .ensures) ∙ c .if1 .left
 
 returns-2 : tie.Need-returns-2
-returns-2 c = c .sin-cos-at .ensures ∙ c .before .to-quarter .ensures
+unfolding sinCosGiven
+returns-2 c = is-value _ _ _ (sym (c .before .before .is-outside .ensures) ∙ c .before .if1 .left) (c .sin-cos-inside .ensures)
 
 pub sin-cos-spec : {M : Type 1} → statement M
-sin-cos-spec = tie.close (tie.spec (λ c κs. tt) returns to-quarter-requires (λ c κs. tt) returns-2)
+sin-cos-spec = tie.close (tie.spec (λ c κs. tt) returns sin-cos-inside-requires returns-2)

@@ -5,4 +5,4 @@ use Rattle.equal_area.proofs.equal_area.point_p.Tie as tie
 
 pub point-p-spec : {M : Type 1} → statement M
 unfolding pointP
-point-p-spec = tie.close (tie.spec (λ c κs. tt) (λ c κs. tt) (λ c κs. tt) (λ c κs. tt) (λ c. rw (c .normalize .ensures, c .before .scale-and-add .ensures, c .before .before .scale .ensures, c .before .before .before .before .before .before .before .before .before .before .before .before .before .sin-cos .ensures)))
+point-p-spec = tie.close (tie.spec (λ c κs. tt) (λ c κs. tt) (λ c κs. tt) (λ c. rw (c .normalize .ensures, c .before .scale-and-add .ensures, c .before .before .scale .ensures)))

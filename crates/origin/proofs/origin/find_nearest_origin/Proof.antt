@@ -10,4 +10,4 @@ unfolding nearestOrigin
 returns c = c .least .ensures ∙ ap least (c .before .before .haversines .ensures)
 
 pub find-nearest-origin-spec : {M : Type 1} → statement M
-find-nearest-origin-spec = tie.close (tie.spec (λ c κs. tt) (λ c. search needs) (λ c κs. search needs) returns)
+find-nearest-origin-spec = tie.close (tie.spec (λ c κs. c .pre) (λ c. search needs) (λ c κs. search needs) returns)

@@ -1,4 +1,5 @@
 -- `origin::haversine` meets its contract. Assumes nothing.
+use Rattle.coordinates.proofs.Sizes.{half-inside}
 use Rattle.origin.specs.Nearest.{haversine}
 use Rattle.origin.proofs.origin.haversine.Statement.{statement}
 use Rattle.origin.proofs.origin.haversine.Tie as tie
@@ -7,4 +8,9 @@ pub haversine-spec : {M : Type 1} → statement M
 unfolding haversine
 haversine-spec =
     tie.close
-    (tie.spec (λ c κs. tt) (λ c κs. tt) (λ c κs. tt) (λ c κs. tt) (λ c. rw (c .sin4 .ensures, c .before .sin3 .ensures, c .before .before .sin2 .ensures, c .before .before .before .sin .ensures)))
+    (tie.spec
+    (λ c κs. half-inside _ _ (c .pre .0 .1) (c .pre .1 .1))
+    (λ c κs. half-inside _ _ (c .before .pre .0 .0) (c .before .pre .1 .0))
+    (λ c κs. c .before .before .pre .0 .1)
+    (λ c κs. c .before .before .before .pre .1 .1)
+    (λ c. rw (c .sin-inside4 .ensures, c .before .sin-inside3 .ensures, c .before .before .sin-inside2 .ensures, c .before .before .before .sin-inside .ensures)))

@@ -1,9 +1,10 @@
 -- `origin::haversines` meets its contract: each of the twelve is put together from shared parts. Assumes nothing.
-use mathlib.Core.Path.{_≡_}
-use mathlib.Core.List.{List, [], _∷_}
+use mathlib.Core.Path.{refl}
+use mathlib.Core.List.{[], _∷_}
 use Prim.Native.Nat.{ℕ}
-use lib.Ieee.{Float, ofBits}
-use Rattle.arithmetic.specs.Arith.{ieee}
+use lib.Ieee.{ofBits}
+use Rattle.elementary.specs.Sine.{beyond}
+use Rattle.coordinates.proofs.Sizes.{half-inside}
 use Rattle.coordinates.specs.declared.spherical.Spherical.{Spherical}
 use Rattle.origin.specs.Origins.{ORIGINS, originAt}
 use Rattle.origin.specs.Nearest.{haversines}
@@ -19,7 +20,7 @@ returns : tie.Need-returns
 unfolding haversines axis originAt ORIGINS ofBits
 returns c =
     let p = c .before .before .before .before .before .before .before .before .before .before .before .before .before .before .before .args .point in
-    let z = c .before .before .before .before .before .before .before .before .before .before .before .before .before .before .sin .ensures in
+    let z = c .before .before .before .before .before .before .before .before .before .before .before .before .before .before .sin-inside .ensures in
     λ i.
     joined p (axis 0) (c .before .before .before .before .before .before .before .before .before .before .before .before .before .half-sine-squared .ensures) (c .before .before .before .before .before .before .before .before .before .half-sine-squared5 .ensures) z (axis-sines .north) i ∷
     joined p (axis 1) (c .before .before .before .before .before .before .before .before .before .before .before .before .half-sine-squared2 .ensures) (c .before .before .before .before .before .before .before .before .before .half-sine-squared5 .ensures) z (axis-sines .upper) i ∷
@@ -36,4 +37,23 @@ returns c =
     []
 
 pub haversines-spec : {M : Type 1} → statement M
-haversines-spec = tie.close (tie.spec (λ c κs. tt) (λ c κs. tt) (λ c κs. tt) (λ c κs. tt) (λ c κs. tt) (λ c κs. tt) (λ c κs. tt) (λ c κs. tt) (λ c κs. tt) (λ c κs. tt) (λ c κs. tt) (λ c κs. tt) (λ c κs. tt) (λ c κs. tt) (λ c κs. tt) returns)
+unfolding beyond ofBits
+haversines-spec =
+    tie.close
+    (tie.spec
+    (λ c κs. c .pre .1)
+    (λ c κs. half-inside _ _ (c .before .pre .1) refl)
+    (λ c κs. half-inside _ _ (c .before .before .pre .1) refl)
+    (λ c κs. half-inside _ _ (c .before .before .before .pre .1) refl)
+    (λ c κs. half-inside _ _ (c .before .before .before .before .pre .1) refl)
+    (λ c κs. half-inside _ _ (c .before .before .before .before .before .pre .0) refl)
+    (λ c κs. half-inside _ _ (c .before .before .before .before .before .before .pre .0) refl)
+    (λ c κs. half-inside _ _ (c .before .before .before .before .before .before .before .pre .0) refl)
+    (λ c κs. half-inside _ _ (c .before .before .before .before .before .before .before .before .pre .0) refl)
+    (λ c κs. half-inside _ _ (c .before .before .before .before .before .before .before .before .before .pre .0) refl)
+    (λ c κs. half-inside _ _ (c .before .before .before .before .before .before .before .before .before .before .pre .0) refl)
+    (λ c κs. half-inside _ _ (c .before .before .before .before .before .before .before .before .before .before .before .pre .0) refl)
+    (λ c κs. half-inside _ _ (c .before .before .before .before .before .before .before .before .before .before .before .before .pre .0) refl)
+    (λ c κs. half-inside _ _ (c .before .before .before .before .before .before .before .before .before .before .before .before .before .pre .0) refl)
+    (λ c κs. half-inside _ _ (c .before .before .before .before .before .before .before .before .before .before .before .before .before .before .pre .0) refl)
+    returns)

@@ -1,5 +1,8 @@
 -- `origin::nearest` meets its contract. Assumes nothing.
+use mathlib.Core.Path.{sym, ap, _∙_}
 use borrow.Author.Needs.{needs}
+use Rattle.answer.specs.Answer.{givenCheck}
+use Rattle.coordinates.proofs.Sizes.{passed-inside}
 use Rattle.origin.specs.Nearest.{nearestGiven}
 use Rattle.origin.proofs.origin.nearest.Statement.{statement}
 use Rattle.origin.proofs.origin.nearest.Tie as tie
@@ -8,9 +11,12 @@ returns : tie.Need-returns
 unfolding nearestGiven
 returns c = simp (← (c .before .before .before .check-spherical .ensures), c .before .check .given .1)
 
+find-nearest-origin-requires : tie.Need-find-nearest-origin-requires
+find-nearest-origin-requires c κs = passed-inside (c .before .before .before .args .point) (sym (c .before .before .check-spherical .ensures) ∙ ap givenCheck (c .enum-told .given .1))
+
 returns-2 : tie.Need-returns-2
 unfolding nearestGiven
 returns-2 c = simp (← (c .before .before .before .check-spherical .ensures), c .before .enum-told .given .1, c .find-nearest-origin .ensures)
 
 pub nearest-spec : {M : Type 1} → statement M
-nearest-spec = tie.close (tie.spec (λ c κs. tt) (λ c. search needs) returns (λ c. search needs) (λ c κs. tt) returns-2)
+nearest-spec = tie.close (tie.spec (λ c κs. tt) (λ c. search needs) returns (λ c. search needs) find-nearest-origin-requires returns-2)

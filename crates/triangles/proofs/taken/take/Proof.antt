@@ -6,6 +6,7 @@ use Prim.Native.Nat.{_<_}
 use Rattle.answer.specs.Answer.{givenCheck}
 use Rattle.arithmetic.specs.Arith.{ieee}
 use Rattle.origin.specs.Origins.{ORIGINS}
+use Rattle.origin.proofs.Sizes.{angle-small}
 use Rattle.tiling.proofs.Modulo.{index-below-10}
 use Rattle.set.proofs.Lengths.{set-fits}
 use Rattle.stores.proofs.Within.{sphere-below}
@@ -33,7 +34,7 @@ take-sphere-requires c κs =
     let l = set-fits _ _ _ _ (sym (c .before .before .before .before .before .before .before .check-call .ensures) ∙ ap givenCheck (c .before .before .before .before .before .enum-told .given .1)) in
     let i = c .before .before .before .before .get-face-triangle-index in
     let small : i .result < 10 = rw (i .ensures) (index-below-10 ieee (c .before .before .before .before .before .before .before .before .before .before .before .args .polar .gamma)) in
-    ((rw (c .before .before .sphere-slot .ensures) (sphere-below (c .before .before .before .before .before .before .before .before .before .before .before .args .origin) (i .result) (c .before .before .before .should-reflect .result) (l .1 .1) small), l .1 .0), (c .before .source-slot .ensures .1, l .0 .1))
+    ((rw (c .before .before .sphere-slot .ensures) (sphere-below (c .before .before .before .before .before .before .before .before .before .before .before .args .origin) (i .result) (c .before .before .before .should-reflect .result) (l .1 .1) small), l .1 .0), ((c .before .source-slot .ensures .1, l .0 .1), rw (c .get-origin .ensures) (angle-small _)))
 
 face-slot-requires : tie.Need-face-slot-requires
 face-slot-requires c κs = rw (c .before .before .before .before .before .before .before .before .get-face-triangle-index .ensures) (index-below-10 ieee (c .before .before .before .before .before .before .before .before .before .before .before .before .before .before .before .args .polar .gamma))

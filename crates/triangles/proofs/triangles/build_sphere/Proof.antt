@@ -20,5 +20,14 @@ returns-4 : tie.Need-returns-4
 unfolding sphereBuilt
 returns-4 c = simp (← (c .before .before .before .before .before .before .before .before .before .before .before .corner-vertex .ensures), c .before .before .before .before .before .before .before .before .before .a .given .1, ← (c .before .before .before .before .before .before .before .corner-vertex2 .ensures), c .before .before .before .before .before .b .given .1, ← (c .before .before .before .corner-vertex3 .ensures), c .before .c .given .1)
 
+corner-vertex-requires : tie.Need-corner-vertex-requires
+corner-vertex-requires c κs = c .before .pre
+
+corner-vertex-requires-2 : tie.Need-corner-vertex-requires-2
+corner-vertex-requires-2 c κs = c .before .before .before .before .before .pre
+
+corner-vertex-requires-3 : tie.Need-corner-vertex-requires-3
+corner-vertex-requires-3 c κs = c .before .before .before .before .before .before .before .before .before .pre
+
 pub build-sphere-spec : {M : Type 1} → statement M
-build-sphere-spec = tie.close (tie.spec (λ c κs. tt) (λ c. search needs) (λ c. search needs) (λ c κs. tt) (λ c. search needs) (λ c. search needs) (λ c κs. tt) (λ c. search needs) (λ c. search needs) returns returns-2 returns-3 returns-4)
+build-sphere-spec = tie.close (tie.spec corner-vertex-requires (λ c. search needs) (λ c. search needs) corner-vertex-requires-2 (λ c. search needs) (λ c. search needs) corner-vertex-requires-3 (λ c. search needs) (λ c. search needs) returns returns-2 returns-3 returns-4)

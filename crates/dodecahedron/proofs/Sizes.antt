@@ -1,0 +1,22 @@
+-- What unplace hands to to_lon_lat is a position that to_spherical gave, on every content of the buffers: sine takes nothing outside there. Assumes nothing.
+use mathlib.Core.Path.{_≡_, subst}
+use Prim.Native.Nat.{ℕ}
+use mathlib.Core.Bool.{false}
+use mathlib.Core.List.{List}
+use lib.Ieee.{Float, binary64, sub}
+use Rattle.answer.specs.Given.{answered}
+use Rattle.arithmetic.specs.Arith.{ieee}
+use Rattle.elementary.specs.Constants.{FRAC-PI-2}
+use Rattle.elementary.specs.Sine.{outside}
+use Rattle.coordinates.specs.declared.coords.Face.{Face}
+use Rattle.coordinates.specs.declared.spherical.Spherical.{Spherical}
+use Rattle.coordinates.proofs.Sizes.{spherical-colatitude}
+use Rattle.dodecahedron.specs.Calls.{Work, inverseCore}
+use Rattle.dodecahedron.proofs.Worked.{inverse-point}
+
+pub inverse-colatitude : (table frame face sphere : List Float) (f : Face) (o : ℕ) (w : Work Spherical)
+    → inverseCore ieee table frame face sphere f o ≡ answered w
+    → outside (sub binary64 FRAC-PI-2 (w .answer .phi .0)) ≡ false
+inverse-colatitude table frame face sphere f o w e =
+    let b = inverse-point ieee table frame face sphere o f w e in
+    subst (λ (x : Work Spherical). outside (sub binary64 FRAC-PI-2 (x .answer .phi .0)) ≡ false) (b .3) (spherical-colatitude (b .1))
