@@ -1,6 +1,7 @@
 // What the oracles on the given Rust share. Not every oracle uses all of it.
 #![allow(dead_code)]
 
+pub mod angles;
 pub mod arguments;
 pub mod fields;
 pub mod generator;

@@ -1,5 +1,5 @@
 // The refusals that look at the lent buffers' lengths, at a call's numbers and at its answer. The Rust has none of them: these
-// are document 01's, under its words.
+// are document 01's, under its words. And the numbers of what the Rust can fail by.
 
 // "The frame (186 numbers, 62 rows of three), the face store (210, 30 slots of 7) and the sphere store (2,400, 240 slots of
 // 10)."
@@ -41,6 +41,15 @@ pub fn check(numbers: [f64; 2], limits: [f64; 2]) -> Result<(), u8> {
         }
     }
     Ok(())
+}
+
+// "8: a triangle that must be built has no frame vertex." Paper 7: "Refusal 19: no corner is returned and that angle is finite
+// and beyond ±64, tried after 8": the Rust's inverse then gives an error of its own (assemble).
+pub fn of_error(error: String) -> u8 {
+    match error.as_str() {
+        "outside" => 19,
+        _ => 8,
+    }
 }
 
 // "9: the answer would have a number that isn't finite."

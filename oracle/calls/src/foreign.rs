@@ -12,15 +12,16 @@ use crate::set::Set;
 use std::f64::consts::PI;
 
 // A triangle of a face, with a point in it.
-struct Target {
-    id: usize,
-    index: usize,
-    reflected: bool,
-    point: [f64; 2],
+#[derive(Debug)]
+pub struct Target {
+    pub id: usize,
+    pub index: usize,
+    pub reflected: bool,
+    pub point: [f64; 2],
 }
 
 #[derive(Clone, Copy)]
-enum Slot {
+pub enum Slot {
     Face(usize),
     Sphere(usize),
 }
@@ -37,12 +38,12 @@ impl Target {
         }
     }
 
-    fn sphere(&self) -> usize {
+    pub fn sphere(&self) -> usize {
         10 * self.id + self.index + if self.reflected { 120 } else { 0 }
     }
 
     // The slots that a call on it uses.
-    fn slots(&self) -> Vec<Slot> {
+    pub fn slots(&self) -> Vec<Slot> {
         let sphere = Slot::Sphere(self.sphere());
         if self.reflected {
             vec![
@@ -69,14 +70,14 @@ impl Target {
     }
 
     // The rows of the frame that the sphere triangle consists of.
-    fn rows(&self, defined: &Set) -> Vec<usize> {
+    pub fn rows(&self, defined: &Set) -> Vec<usize> {
         let triangle = defined.sphere_slot(self.sphere()).expect("all are filled");
         let row = |v: &[f64]| rows().iter().position(|r| r == v).expect("a row");
         triangle.chunks(3).map(row).collect()
     }
 }
 
-fn coordinates(set: &Set, slot: Slot) -> Vec<f64> {
+pub fn coordinates(set: &Set, slot: Slot) -> Vec<f64> {
     let found = match slot {
         Slot::Face(k) => set.face_slot(k),
         Slot::Sphere(k) => set.sphere_slot(k),
@@ -84,7 +85,7 @@ fn coordinates(set: &Set, slot: Slot) -> Vec<f64> {
     found.expect("all are filled").to_vec()
 }
 
-fn put(script: &mut Script, slot: Slot, mark: f64, coordinates: &[f64]) {
+pub fn put(script: &mut Script, slot: Slot, mark: f64, coordinates: &[f64]) {
     match slot {
         Slot::Face(k) => script.put_face(k, mark, coordinates),
         Slot::Sphere(k) => script.put_sphere(k, mark, coordinates),

@@ -1,11 +1,14 @@
 // Writes what the four calls on a set give and leave, by the given Rust with document 01's elementary steps in it, to standard
 // output; or with the word `test` tries it on what document 01 says of single points.
 
+mod angle;
+mod border;
 mod calls;
 #[path = "../../common/mod.rs"]
 mod common;
 mod foreign;
 mod inputs;
+mod outside;
 mod refused;
 mod script;
 mod selftest;
@@ -37,6 +40,7 @@ fn answers() -> List {
         let _ = s.call(call, &x);
     }
     foreign::all(s, &mut g);
+    outside::all(s, &mut g);
     script.list
 }
 

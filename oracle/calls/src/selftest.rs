@@ -3,6 +3,7 @@
 use crate::calls::{call, Forward, Inverse, Place, Unplace};
 use crate::common::fields::whole;
 use crate::common::refusals::RIGHT;
+use crate::outside::KNOWN;
 use crate::set::{new_projection, Set};
 use a5::coordinate_systems::Face;
 use std::f64::consts::PI;
@@ -59,6 +60,20 @@ fn slots() {
     assert_eq!(filled(&set), (vec![10, 20], vec![160]));
 }
 
+// Paper 7: "Inverse and unplace then refuse." Nothing is written; "tried after 8".
+fn outside() {
+    let mut zeros = Set::filled_with([0.0; 3]);
+    let mut set = Set::opened();
+    for (p, id) in KNOWN {
+        let x = [p[0], p[1], whole(id)];
+        for asked in [Inverse, Unplace] {
+            assert_eq!(call(asked, &mut set, RIGHT, &x), Err(19));
+            assert_eq!(call(asked, &mut zeros, RIGHT, &x), Err(8));
+        }
+    }
+    assert!(set.is_empty());
+}
+
 // "In the Rust, inverse with ids 12 to 23 may find a reflected triangle of another origin in the cache; here it is 4."
 fn cache_accident() {
     let mut rust = new_projection();
@@ -71,5 +86,6 @@ pub fn run() {
     session();
     refusals();
     slots();
+    outside();
     cache_accident();
 }

@@ -38,11 +38,14 @@ pub const PLACES: [(Where, &str); 4] = [
     (Where::Alone, "no set"),
 ];
 
+// Above every refusal's number.
+const NUMBERS: usize = 20;
+
 #[derive(Clone, Default)]
 pub struct Counts {
     compared: [[u64; 4]; CALLS.len()],
-    // by the refusal's number
-    refused: [[u64; 11]; CALLS.len()],
+    // by the refusal's number, then by the place
+    refused: [[[u64; 4]; NUMBERS]; CALLS.len()],
     pub buffers: u64,
 }
 
@@ -75,7 +78,7 @@ impl Counts {
             stop(asked.call, asked.place, asked.arguments, asked.lent, &text);
         }
         self.compared[asked.call][asked.place as usize] += 1;
-        self.refused[asked.call][rust.status as usize] += 1;
+        self.refused[asked.call][rust.status as usize][asked.place as usize] += 1;
     }
 
     // The first number of the buffers that differs, as library::differing tells it.
@@ -94,12 +97,24 @@ impl Counts {
         for call in 0..CALLS.len() {
             for place in 0..4 {
                 self.compared[call][place] += other.compared[call][place];
-            }
-            for number in 0..11 {
-                self.refused[call][number] += other.refused[call][number];
+                for number in 0..NUMBERS {
+                    self.refused[call][number][place] += other.refused[call][number][place];
+                }
             }
         }
         self.buffers += other.buffers;
+    }
+
+    // Of 19 also how often on each kind of set.
+    fn where_19(&self, call: usize, number: usize) -> String {
+        if number != 19 {
+            return String::new();
+        }
+        let count = |place: Where| self.refused[call][19][place as usize];
+        let at = PLACES[..3]
+            .iter()
+            .map(|p| format!("{} {}", p.1, count(p.0)));
+        format!(" ({})", at.collect::<Vec<_>>().join(", "))
     }
 
     // Reached only where nothing differs.
@@ -107,7 +122,10 @@ impl Counts {
         for (call, name) in CALLS.iter().enumerate() {
             let total: u64 = self.compared[call].iter().sum();
             let places = PLACES.map(|(place, text)| (text.to_string(), self.at(call, place)));
-            let refused = (1..11).map(|n| (format!("refused {n}"), self.refused[call][n]));
+            let refused = (1..NUMBERS).map(|n| {
+                let total = self.refused[call][n].iter().sum();
+                (format!("refused {n}{}", self.where_19(call, n)), total)
+            });
             let parts: Vec<String> = places
                 .into_iter()
                 .chain(refused)

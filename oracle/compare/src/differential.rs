@@ -12,7 +12,7 @@ use crate::outcome::Outcome;
 use crate::script::Script;
 use crate::set::Set;
 use crate::spoil::Spoil;
-use crate::{conversions, nearest, refused};
+use crate::{conversions, nearest, outside, refused};
 
 const FOUR: [Call; 4] = [Forward, Inverse, Place, Unplace];
 
@@ -33,7 +33,7 @@ fn back(call: Call, x: &[f64], answer: &[f64]) -> (Call, Vec<f64>) {
 
 // On one set for the whole run, there and back.
 fn on_kept(script: &mut Script, draw: &mut Draw, call: Call) {
-    let x = draw.arguments(call);
+    let x = draw.arguments(call, &script.set);
     let lent = draw.lengths(60);
     if lent != RIGHT {
         return script.call_lent(call, &x, lent);
@@ -46,12 +46,12 @@ fn on_kept(script: &mut Script, draw: &mut Draw, call: Call) {
 
 fn on_opened(script: &mut Script, draw: &mut Draw, call: Call) {
     script.renew();
-    let x = draw.arguments(call);
+    let x = draw.arguments(call, &script.set);
     let _ = script.call(call, &x);
 }
 
 fn on_foreign(script: &mut Script, draw: &mut Draw, call: Call) {
-    let x = draw.arguments(call);
+    let x = draw.arguments(call, &script.set);
     script.call_lent(call, &x, draw.lengths(60));
     let (kind, slot) = draw.slot();
     script.show(kind, slot, draw.lengths(20));
@@ -95,15 +95,15 @@ impl Alone {
         given
     }
 
-    fn turn(&mut self, draw: &mut Draw) {
+    fn turn(&mut self, draw: &mut Draw, set: &Set) {
         let pair = |x: Vec<f64>| [x[0], x[1]];
-        let x = pair(draw.arguments(Forward));
+        let x = pair(draw.arguments(Forward, set));
         let ours = self.library.nearest(x);
         self.compare(NEAREST, x, ours, nearest::nearest(x).map(|id| id.to_vec()));
         if let Ok(answer) = self.to_lon_lat(x) {
             let _ = self.from_lon_lat(pair(answer));
         }
-        let x = pair(draw.arguments(Place));
+        let x = pair(draw.arguments(Place, set));
         if let Ok(answer) = self.from_lon_lat(x) {
             let _ = self.to_lon_lat(pair(answer));
         }
@@ -112,7 +112,6 @@ impl Alone {
 
 struct Run {
     draw: Draw,
-    defined: Set,
     kept: Script,
     opened: Script,
     foreign: Script,
@@ -127,7 +126,6 @@ impl Run {
         let script = |place| Script::new(place, library(place));
         Run {
             draw: Draw::new(seed),
-            defined: Set::defined(),
             kept: script(Where::Kept),
             opened: script(Where::Opened),
             foreign: script(Where::Foreign),
@@ -141,11 +139,12 @@ impl Run {
     fn turn(&mut self, turn: u64) {
         if turn % A_LIST == 0 {
             foreign::all(&mut self.foreign, &mut self.draw.g);
+            outside::all(&mut self.foreign, &mut self.draw.g);
             refused::lengths(&mut self.foreign);
         }
         open(&mut self.opened, &mut self.draw);
         if turn % A_SET == 0 {
-            let set = foreign_sets::any(&mut self.draw.g, &self.defined);
+            let set = foreign_sets::any(&mut self.draw.g, &self.draw.defined);
             self.foreign.lend(&set);
         }
         for call in FOUR {
@@ -155,7 +154,7 @@ impl Run {
         }
         let (kind, slot) = self.draw.slot();
         self.kept.show(kind, slot, self.draw.lengths(20));
-        self.alone.turn(&mut self.draw);
+        self.alone.turn(&mut self.draw, &self.kept.set);
     }
 }
 

@@ -10,6 +10,7 @@ use crate::common::refusals::RIGHT;
 use crate::common::values::{moved, specials};
 use crate::inputs::{self, nearest_two};
 use crate::library::BEHIND;
+use crate::set::{Set, FACE_SLOTS};
 use a5::core::constants::{DISTANCE_TO_EDGE, PI_OVER_5, TWO_PI_OVER_5};
 use a5::core::coordinate_transforms::to_spherical;
 use std::f64::consts::PI;
@@ -27,7 +28,12 @@ pub struct Draw {
     borders: Vec<[f64; 2]>,
     // the ends of half an edge of the dodecahedron
     edges: Vec<[[f64; 3]; 2]>,
+    // every slot as defined
+    pub defined: Set,
 }
+
+// Of a face's tenth on the sphere: the angle from the area share is so much times the share.
+const AREA: f64 = PI / 30.0;
 
 // Each vertex with the midpoints of its three edges.
 fn edges() -> Vec<[[f64; 3]; 2]> {
@@ -59,6 +65,7 @@ impl Draw {
             specials: specials(),
             borders: [borders(), meridians()].concat(),
             edges: edges(),
+            defined: Set::defined(),
         };
         draw.renew();
         draw
@@ -183,9 +190,33 @@ impl Draw {
         [rho * gamma.cos(), rho * gamma.sin()]
     }
 
-    // X and y.
-    pub fn face(&mut self) -> [f64; 2] {
-        match self.g.whole(0, 8) {
+    // Beside the line through the first corner of a face triangle of the set, parallel to the side across: where the angle from
+    // the area share passes ±64, and from there on either side by any power of ten. Of a reflected triangle mostly: of an
+    // unreflected one only foreign hands bring the line near.
+    fn beside_the_line(&mut self, set: &Set) -> [f64; 2] {
+        let slot = if self.one_in(4) {
+            self.pick(FACE_SLOTS)
+        } else {
+            10 + self.pick(10)
+        };
+        let sides = self.g.between(-1.0, 1.0);
+        // 1 less u, going from the line to the middle of the side: each half of it is added to v and to w
+        let half = [0.5, -0.5][self.pick(2)];
+        let rho = sides.abs() / (64.0 / AREA + half) * (1.0 + self.small());
+        let x = set
+            .face_slot(slot)
+            .or(self.defined.face_slot(slot))
+            .expect("all are filled");
+        std::array::from_fn(|i| {
+            let (a, b, c) = (x[i], x[2 + i], x[4 + i]);
+            a + sides * (c - b) + rho * ((b + c) / 2.0 - a)
+        })
+    }
+
+    // X and y, on a set.
+    fn face(&mut self, set: &Set) -> [f64; 2] {
+        match self.g.whole(0, 10) {
+            8 | 9 => self.beside_the_line(set),
             0 | 1 => within(&mut self.g, 0.8),
             2 => within(&mut self.g, 1.3),
             3 => within(&mut self.g, 4.0),
@@ -212,12 +243,12 @@ impl Draw {
         self.pick(end)
     }
 
-    fn over_the_domain(&mut self, call: Call) -> Vec<f64> {
+    fn over_the_domain(&mut self, call: Call, set: &Set) -> Vec<f64> {
         if call == Place {
             return self.degrees().to_vec();
         }
         if call != Forward {
-            let p = self.face();
+            let p = self.face(set);
             return vec![p[0], p[1], whole(self.origin())];
         }
         let p = self.radians();
@@ -230,9 +261,10 @@ impl Draw {
         vec![p[0], p[1], whole(id)]
     }
 
-    pub fn arguments(&mut self, call: Call) -> Vec<f64> {
+    // For a call on a set, which matters to inverse and unplace.
+    pub fn arguments(&mut self, call: Call, set: &Set) -> Vec<f64> {
         if self.one_in(2) {
-            return self.over_the_domain(call);
+            return self.over_the_domain(call, set);
         }
         self.left -= 1;
         if self.left == 0 {

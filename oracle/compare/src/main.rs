@@ -2,6 +2,10 @@
 // answers, refusals and whole buffers, bit for bit, up to the first difference. With --distance: how far from the Rust as it is.
 
 // What the oracle of the calls on a set has is used here as it stands; `script` alone is another, which compares.
+#[path = "../../calls/src/angle.rs"]
+mod angle;
+#[path = "../../calls/src/border.rs"]
+mod border;
 #[allow(dead_code)]
 #[path = "../../calls/src/calls.rs"]
 mod calls;
@@ -24,6 +28,8 @@ mod library;
 #[path = "../../geometry/src/calls.rs"]
 mod nearest;
 mod outcome;
+#[path = "../../calls/src/outside.rs"]
+mod outside;
 mod plain;
 #[path = "../../../bindings/rust/src/raw.rs"]
 mod raw;

@@ -17,11 +17,14 @@ fn ended(words: &[&str]) -> (Option<i32>, String) {
     )
 }
 
-// Open has no answer and is tried on sets that are opened anew, the calls that take no set have no buffers, and show is not
-// tried on newly opened sets.
+// Open has no answer and is tried on sets that are opened anew, the calls that take no set have no buffers, show is not
+// tried on newly opened sets, and only inverse and unplace give 19.
 fn can_be(call: &str, what: &str, place: &str) -> bool {
     let buffers = ["frame", "face", "sphere", "behind"].contains(&what);
+    let is_19 = what.ends_with("at 19");
     match call {
+        "inverse" | "unplace" => place != "no set",
+        _ if is_19 => false,
         "nearest" | "from_lon_lat" | "to_lon_lat" => place == "no set" && !buffers,
         "open" => place == "newly opened" && (buffers || what == "status"),
         "show" | "slot_state" => ["kept set", "foreign"].contains(&place),

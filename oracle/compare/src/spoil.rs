@@ -4,9 +4,20 @@ use crate::counts::{Where, CALLS, PLACES};
 use crate::library::Buffers;
 use crate::outcome::Outcome;
 
-// The numbers of an answer, the status, what a refusal leaves in the answer, one number of each buffer and one behind.
-pub const WHATS: [&str; 7] = [
-    "answer", "status", "left", "frame", "face", "sphere", "behind",
+// The numbers of an answer, the status, what a refusal leaves in the answer, one number of each buffer and one behind; then the
+// status and numbers of the stores where it is 19.
+pub const WHATS: [&str; 11] = [
+    "answer",
+    "status",
+    "left",
+    "frame",
+    "face",
+    "sphere",
+    "behind",
+    "status at 19",
+    "left at 19",
+    "face at 19",
+    "sphere at 19",
 ];
 
 #[derive(Clone, Copy)]
@@ -36,12 +47,14 @@ impl Spoil {
         }
         let last = outcome.numbers.last_mut();
         match (self.what, outcome.status, last, buffers) {
-            ("status", _, _, _) => outcome.status ^= 1,
+            ("status", _, _, _) | ("status at 19", 19, _, _) => outcome.status ^= 1,
             ("answer", 0, Some(x), _) => flip(x),
-            ("left", 1.., Some(x), _) => flip(x),
+            ("left", 1.., Some(x), _) | ("left at 19", 19, Some(x), _) => flip(x),
             ("frame", _, _, Some(b)) => flip(&mut b.numbers[0][100]),
             ("face", _, _, Some(b)) => flip(&mut b.numbers[1][209]),
+            ("face at 19", 19, _, Some(b)) => flip(&mut b.numbers[1][70]),
             ("sphere", _, _, Some(b)) => flip(&mut b.numbers[2][1234]),
+            ("sphere at 19", 19, _, Some(b)) => flip(&mut b.numbers[2][1200]),
             ("behind", _, _, Some(b)) => flip(&mut b.numbers[2][2400]),
             _ => return false,
         }

@@ -102,15 +102,35 @@ pub fn sphericals(g: &mut Generator) -> Vec<[f64; 2]> {
     list
 }
 
+// For those that take an angle's sine: ±64 with neighbours, and ±10 to ±66.
+pub fn angles(g: &mut Generator) -> Vec<[f64; 1]> {
+    let mut list = limits(64.0);
+    for _ in 0..40 {
+        let x = g.between(10.0, 66.0);
+        list.extend([x, -x]);
+    }
+    alone(list)
+}
+
+// The same for either of two numbers, and both at the limit.
+pub fn angle_pairs(g: &mut Generator) -> Vec<[f64; 2]> {
+    let mut list = pairs(&limits(64.0), &limits(64.0));
+    for [x] in angles(g) {
+        list.extend([[x, 0.5], [0.5, x]]);
+    }
+    list
+}
+
 fn unit(g: &mut Generator) -> [f64; 3] {
-    steps::to_cartesian([g.between(-PI, PI), g.between(0.0, PI)])
+    let at = [g.between(-PI, PI), g.between(0.0, PI)];
+    steps::to_cartesian(at).expect("angles within a turn")
 }
 
 // The twelve centres.
 fn centres() -> Vec<[f64; 3]> {
     get_origins()
         .iter()
-        .map(|o| steps::to_cartesian(of_spherical(o.axis)))
+        .map(|o| steps::to_cartesian(of_spherical(o.axis)).expect("angles within a turn"))
         .collect()
 }
 

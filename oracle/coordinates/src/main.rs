@@ -22,12 +22,14 @@ fn to_lon_lat(x: [f64; 2]) -> Result<[f64; 2], u8> {
 
 fn answers() -> List {
     let mut g = Generator::new(3);
+    let far = &mut Generator::new(10);
     let mut list = List::new();
     let l = &mut list;
     l.step(1, steps::deg_to_rad, &inputs::degrees(&mut g));
     l.step(2, steps::rad_to_deg, &inputs::radians(&mut g));
     l.step(3, steps::to_polar, &inputs::faces(&mut g));
-    l.step(4, steps::to_face, &inputs::polars(&mut g));
+    l.call(4, steps::to_face, &inputs::polars(&mut g));
+    l.call(4, steps::to_face, &inputs::angle_pairs(far));
     l.step(
         5,
         steps::face_to_barycentric,
@@ -39,11 +41,15 @@ fn answers() -> List {
         &inputs::weights_and_triangle(&mut g),
     );
     l.step(7, steps::to_spherical, &inputs::vectors(&mut g));
-    l.step(8, steps::to_cartesian, &inputs::sphericals(&mut g));
+    l.call(8, steps::to_cartesian, &inputs::sphericals(&mut g));
+    l.call(8, steps::to_cartesian, &inputs::angle_pairs(far));
     l.step(9, steps::normalize_longitude, &inputs::degrees(&mut g));
-    l.step(10, steps::authalic_forward, &inputs::radians(&mut g));
-    l.step(11, steps::authalic_inverse, &inputs::radians(&mut g));
-    l.step(12, steps::gnomonic_forward, &inputs::sphericals(&mut g));
+    l.call(10, steps::authalic_forward, &inputs::radians(&mut g));
+    l.call(10, steps::authalic_forward, &inputs::angles(far));
+    l.call(11, steps::authalic_inverse, &inputs::radians(&mut g));
+    l.call(11, steps::authalic_inverse, &inputs::angles(far));
+    l.call(12, steps::gnomonic_forward, &inputs::sphericals(&mut g));
+    l.call(12, steps::gnomonic_forward, &inputs::angle_pairs(far));
     l.step(13, steps::gnomonic_inverse, &inputs::polars(&mut g));
     l.step(14, steps::triple_product, &inputs::three_vectors(&mut g));
     l.step(15, steps::length, &inputs::vectors(&mut g));

@@ -1,5 +1,7 @@
-// The Rust's functions as functions from numbers to numbers.
+// The Rust's functions as functions from numbers to numbers. Those that have a sine, a cosine or a tangent in them may have no
+// answer.
 
+use crate::common::angles::inside;
 use crate::common::fields::{cartesian, face, of_polar, of_spherical, polar, spherical, triangle};
 use a5::coordinate_systems::{Barycentric, Degrees, Radians};
 use a5::core::coordinate_transforms;
@@ -19,8 +21,10 @@ pub fn to_polar(x: [f64; 2]) -> [f64; 2] {
     of_polar(coordinate_transforms::to_polar(face(&x)))
 }
 
-pub fn to_face(x: [f64; 2]) -> [f64; 2] {
-    coordinate_transforms::to_face(polar(x)).into()
+// Gamma's sine and cosine.
+pub fn to_face(x: [f64; 2]) -> Result<[f64; 2], u8> {
+    inside(&x[1..])?;
+    Ok(coordinate_transforms::to_face(polar(x)).into())
 }
 
 pub fn face_to_barycentric(x: [f64; 8]) -> [f64; 3] {
@@ -36,28 +40,35 @@ pub fn to_spherical(x: [f64; 3]) -> [f64; 2] {
     of_spherical(coordinate_transforms::to_spherical(cartesian(&x)))
 }
 
-pub fn to_cartesian(x: [f64; 2]) -> [f64; 3] {
-    coordinate_transforms::to_cartesian(spherical(x)).into()
+// Theta's and phi's.
+pub fn to_cartesian(x: [f64; 2]) -> Result<[f64; 3], u8> {
+    inside(&x)?;
+    Ok(coordinate_transforms::to_cartesian(spherical(x)).into())
 }
 
 pub fn normalize_longitude(x: [f64; 1]) -> [f64; 1] {
     [coordinate_transforms::normalize_longitude(x[0])]
 }
 
-pub fn authalic_forward(x: [f64; 1]) -> [f64; 1] {
-    [AuthalicProjection
+// The latitude's.
+pub fn authalic_forward(x: [f64; 1]) -> Result<[f64; 1], u8> {
+    inside(&x)?;
+    Ok([AuthalicProjection
         .forward(Radians::new_unchecked(x[0]))
-        .get()]
+        .get()])
 }
 
-pub fn authalic_inverse(x: [f64; 1]) -> [f64; 1] {
-    [AuthalicProjection
+pub fn authalic_inverse(x: [f64; 1]) -> Result<[f64; 1], u8> {
+    inside(&x)?;
+    Ok([AuthalicProjection
         .inverse(Radians::new_unchecked(x[0]))
-        .get()]
+        .get()])
 }
 
-pub fn gnomonic_forward(x: [f64; 2]) -> [f64; 2] {
-    of_polar(GnomonicProjection.forward(spherical(x)))
+// Phi's tangent.
+pub fn gnomonic_forward(x: [f64; 2]) -> Result<[f64; 2], u8> {
+    inside(&x[1..])?;
+    Ok(of_polar(GnomonicProjection.forward(spherical(x))))
 }
 
 pub fn gnomonic_inverse(x: [f64; 2]) -> [f64; 2] {

@@ -119,6 +119,19 @@ pub fn angles(g: &mut Generator) -> Vec<f64> {
     list
 }
 
+// For the same: ±64 and the doubles beside it, the odd multiples of π/4 up to there that angles has not, and ±10 to ±66.
+pub fn to_the_limit(g: &mut Generator) -> Vec<f64> {
+    let mut list = both_signs(&near(64.0));
+    for k in (43..=81).step_by(2) {
+        list.extend(both_signs(&near(k as f64 * FRAC_PI_4)));
+    }
+    for i in 0..560 {
+        let x = 10.0 + 0.1 * (i as f64 + g.unit());
+        list.extend([x, -x]);
+    }
+    list
+}
+
 // For core: 0 to 1, the small numbers in it, and outside.
 pub fn quotients(g: &mut Generator) -> Vec<f64> {
     let mut list = specials();

@@ -20,6 +20,22 @@ fn records(list: &mut List, number: u8, function: fn(f64) -> f64, arguments: &[f
     }
 }
 
+// Of a sine, a cosine, a tangent or both: 19 where the angle is outside.
+fn angle_records(list: &mut List, number: u8, function: fn(f64) -> Vec<f64>, angles: &[f64]) {
+    for x in angles {
+        if steps::outside(*x) {
+            list.refused(number, 19, &[*x]);
+        } else {
+            list.answered(number, &[*x], &function(*x));
+        }
+    }
+}
+
+fn both(x: f64) -> Vec<f64> {
+    let both = steps::sin_cos(x);
+    vec![both.sin, both.cos]
+}
+
 fn answers() -> List {
     let mut g = Generator::new(1);
     let mut list = List::new();
@@ -30,19 +46,17 @@ fn answers() -> List {
     records(&mut list, 3, steps::floor, &wholes);
     records(&mut list, 4, steps::round, &wholes);
     records(&mut list, 5, steps::sqrt, &inputs::roots(&mut g));
-    let angles = inputs::angles(&mut g);
-    records(&mut list, 6, steps::sin, &angles);
-    records(&mut list, 7, steps::cos, &angles);
-    records(&mut list, 8, steps::tan, &angles);
+    let mut angles = inputs::angles(&mut g);
+    angles.extend(inputs::to_the_limit(&mut Generator::new(9)));
+    angle_records(&mut list, 6, |x| vec![steps::sin(x)], &angles);
+    angle_records(&mut list, 7, |x| vec![steps::cos(x)], &angles);
+    angle_records(&mut list, 8, |x| vec![steps::tan(x)], &angles);
     records(&mut list, 9, steps::core, &inputs::quotients(&mut g));
     records(&mut list, 10, steps::atan, &inputs::tangents(&mut g));
     for (y, x) in inputs::points(&mut g) {
         list.answered(11, &[y, x], &[steps::atan2(y, x)]);
     }
-    for x in angles {
-        let both = steps::sin_cos(x);
-        list.answered(12, &[x], &[both.sin, both.cos]);
-    }
+    angle_records(&mut list, 12, both, &angles);
     list
 }
 

@@ -75,6 +75,22 @@ fn close_ones(g: &mut Generator) {
     }
 }
 
+// "Finite arguments beyond ±64", and up to there the steps are close to the library's too: TAU is off by 2.5e-16 a turn.
+fn to_the_limit(g: &mut Generator) {
+    for x in values::both_signs(&values::near(64.0)) {
+        assert_eq!(steps::outside(x), x.abs() > 64.0, "outside at {x:e}");
+    }
+    for x in values::both_signs(&[0.0, f64::INFINITY, f64::NAN]) {
+        assert!(!steps::outside(x), "outside at {x:e}");
+    }
+    assert!(steps::outside(f64::MAX) && steps::outside(-f64::MAX));
+    for _ in 0..500_000 {
+        let x = g.between(-64.0, 64.0);
+        close("sin", x, steps::sin(x), x.sin(), 5e-15);
+        close("cos", x, steps::cos(x), x.cos(), 5e-15);
+    }
+}
+
 fn marked_points() {
     exact("sqrt", 4.0, steps::sqrt(4.0), 2.0);
     exact(
@@ -101,4 +117,5 @@ pub fn run() {
     marked_points();
     exact_ones(&mut g);
     close_ones(&mut g);
+    to_the_limit(&mut g);
 }

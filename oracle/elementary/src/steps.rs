@@ -124,6 +124,12 @@ fn c(k: u64) -> f64 {
     1.0 / factorial as f64
 }
 
+// Paper 7: "Sine and cosine shall answer "outside" for finite arguments beyond ±64." 64 is not beyond, and what is not finite
+// gives NaN as before. Who asks for a sine, a cosine or a tangent looks here first; the steps themselves are below.
+pub fn outside(x: f64) -> bool {
+    x.is_finite() && (x < -64.0 || x > 64.0)
+}
+
 pub struct SinCos {
     pub sin: f64,
     pub cos: f64,

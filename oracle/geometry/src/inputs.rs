@@ -1,7 +1,7 @@
 // The arguments that each function is asked at.
 
 use crate::common::arguments::{
-    all_lengths, few, join, pairs, spherical_ends, spoilt, wild, within, SMALLEST,
+    all_lengths, few, join, limits, pairs, spherical_ends, spoilt, wild, within, SMALLEST,
 };
 use crate::common::fields::{of_spherical, spherical, whole};
 use crate::common::generator::Generator;
@@ -63,6 +63,28 @@ pub fn two_points(g: &mut Generator) -> Vec<[f64; 4]> {
     }
     list.extend(spoilt(within::<4>(g, 3.0)));
     list.extend(wild(g));
+    list
+}
+
+// The same about ±64: each number at the limit and beside it, phis with phis and, within it, thetas with thetas; and to ±66,
+// the thetas to ±64. Theta beyond has no record: the library's haversine is not for it, also where half the difference is less.
+pub fn two_far_points(g: &mut Generator) -> Vec<[f64; 4]> {
+    let mut list = Vec::new();
+    for [phi, phi2] in pairs(&limits(64.0), &limits(64.0)) {
+        list.push([1.0, phi, 0.5, phi2]);
+    }
+    for phi in limits(64.0) {
+        list.extend([[1.0, phi, -2.0, 0.5], [1.0, -0.5, 0.25, phi]]);
+    }
+    let thetas = both_signs(&[moved(64.0, -1), 64.0]);
+    for [theta, theta2] in pairs(&thetas, &thetas) {
+        list.push([theta, 1.0, theta2, 0.5]);
+    }
+    for _ in 0..60 {
+        let [theta, theta2] = within(g, 64.0);
+        let [phi, phi2] = within(g, 66.0);
+        list.push([theta, phi, theta2, phi2]);
+    }
     list
 }
 

@@ -31,7 +31,12 @@ fn answers() -> List {
     l.call(6, |x| calls::open(x).map(|()| []), &inputs::lengths());
     l.step(7, |x| calls::changed(x).map(whole), &inputs::lengths());
     l.call(8, calls::nearest, &inputs::nearest(&mut g));
-    l.step(9, steps::haversine, &inputs::two_points(&mut g));
+    l.call(9, steps::haversine, &inputs::two_points(&mut g));
+    l.call(
+        9,
+        steps::haversine,
+        &inputs::two_far_points(&mut Generator::new(11)),
+    );
     l.step(10, steps::transform_quat, &inputs::turns(&mut g));
     l.step(11, steps::triangle_index, &inputs::index_points(&mut g));
     l.step(12, steps::normalize_gamma, &inputs::gammas(&mut g));

@@ -1,5 +1,6 @@
 // The Rust's functions as functions from numbers to numbers.
 
+use crate::common::angles::inside;
 use crate::common::fields::{cartesian, of_spherical, of_whole, polar, spherical, whole};
 use crate::common::places::rows;
 use a5::coordinate_systems::Radians;
@@ -36,9 +37,12 @@ pub fn frame(x: [f64; 1]) -> [f64; 3] {
     rows()[of_whole(x[0])]
 }
 
-pub fn haversine(x: [f64; 4]) -> [f64; 1] {
-    let (point, axis) = (spherical([x[0], x[1]]), spherical([x[2], x[3]]));
-    [origin::haversine(point, axis)]
+// It takes the sines of both phis and of half of either difference.
+pub fn haversine(x: [f64; 4]) -> Result<[f64; 1], u8> {
+    let [theta, phi, theta2, phi2] = x;
+    inside(&[phi, phi2, (phi2 - phi) / 2.0, (theta2 - theta) / 2.0])?;
+    let (point, axis) = (spherical([theta, phi]), spherical([theta2, phi2]));
+    Ok([origin::haversine(point, axis)])
 }
 
 fn bits(x: [f64; 3]) -> [u64; 3] {

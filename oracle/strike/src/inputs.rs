@@ -1,6 +1,8 @@
 // The inputs of the sessions.
 
+use crate::calls;
 use crate::generator::Generator;
+use a5::projections::dodecahedron::DodecahedronProjection;
 
 // "EAD", 16-bit version 1.
 pub const HEADER: &[u8; 5] = b"EAD\0\x01";
@@ -106,8 +108,59 @@ fn limits() -> Vec<Vec<u8>> {
     records.chunks(40).map(with_header).collect()
 }
 
+// Unplaces that give 19, with their origins: points too far off the face, near the line through the reflected centre parallel to
+// the edge.
+pub const OUTSIDE: [(u8, [i32; 2]); 3] = [
+    (7, [1235847662, -125812592]),
+    (4, [1235734985, 265693756]),
+    (3, [-1134423674, 541134446]),
+];
+
+// Such a point moved towards 0 in its first number as far as it gives 19, and one unit farther, where it is answered.
+fn border((origin, [x, y]): (u8, [i32; 2])) -> [Vec<u8>; 2] {
+    let mut set = DodecahedronProjection::new().expect("the frame has 62 rows");
+    let mut is_answered = |x: i32| {
+        let p = [x, y].map(|n| f64::from(n) / 1000000000.0);
+        calls::unplace(&mut set, p, origin).is_ok()
+    };
+    let (mut beyond, mut within) = (x, x - x.signum() * 10_000_000);
+    assert!(!is_answered(beyond) && is_answered(within));
+    while (beyond - within).abs() > 1 {
+        let middle = within + (beyond - within) / 2;
+        if is_answered(middle) {
+            within = middle;
+        } else {
+            beyond = middle;
+        }
+    }
+    [beyond, within].map(|x| record(2, origin, [x, y]))
+}
+
+fn outside() -> Vec<Vec<u8>> {
+    let records = |at: &(u8, [i32; 2])| {
+        let [beyond, within] = border(*at);
+        [record(2, at.0, at.1), beyond, within]
+    };
+    OUTSIDE.iter().flat_map(records).collect()
+}
+
+// Each alone, and all.
+fn far_off() -> Vec<Vec<u8>> {
+    let mut list: Vec<Vec<u8>> = outside().into_iter().map(|r| with_header(&[r])).collect();
+    list.push(with_header(&outside()));
+    list
+}
+
 pub fn sessions() -> Vec<Vec<u8>> {
-    [prefixes(), wrong_headers(), cut_off(), refused(), limits()].concat()
+    [
+        prefixes(),
+        wrong_headers(),
+        cut_off(),
+        refused(),
+        limits(),
+        far_off(),
+    ]
+    .concat()
 }
 
 fn place(g: &mut Generator) -> Vec<u8> {
@@ -132,7 +185,8 @@ fn any(g: &mut Generator) -> Vec<u8> {
     record(kind, origin, [g.bits() as i32, g.bits() as i32])
 }
 
-// Records for all origins behind document 01's session, to and fro, and at the end one that is cut off.
+// Records for all origins behind document 01's session, to and fro; points too far off the face; and at the end one that is cut
+// off.
 pub fn long() -> Vec<u8> {
     let mut g = Generator::new(7);
     let mut bytes = SESSION.to_vec();
@@ -143,6 +197,7 @@ pub fn long() -> Vec<u8> {
             bytes.extend(any(&mut g));
         }
     }
+    bytes.extend(outside().concat());
     bytes.extend(&record(3, 12, [0, 0])[..9]);
     bytes
 }

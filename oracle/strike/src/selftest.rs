@@ -1,6 +1,6 @@
 // What document 01 says of the program, tried on the oracle's session.
 
-use crate::inputs::{record, HEADER, SESSION};
+use crate::inputs::{record, HEADER, OUTSIDE, SESSION};
 use crate::session::lines;
 
 const ANSWERS: &str = "P 0 0000000000000000 0000000000000000
@@ -27,4 +27,8 @@ pub fn run() {
     after_header(&record(1, 1, [0, 0]), "R 12\n");
     after_header(&[0; 9], "R 13\n");
     after_header(&record(1, 0, [0, 900000001]), "R 6\n");
+    // Paper 7: "Inverse and unplace then refuse."
+    for (origin, numbers) in OUTSIDE {
+        after_header(&record(2, origin, numbers), "R 19\n");
+    }
 }
