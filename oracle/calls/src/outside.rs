@@ -141,7 +141,8 @@ fn on_face(
 }
 
 // Foreign face triangles: reflected or not, of an even or an odd index, with an angle of either sign. In an even triangle the
-// share is w, which is 1 less the two others: below 0 it has half as many digits as the angle, and both can't be exact.
+// share is w, 1 less the sum of u and v: where w is below 0 the sum is above 1, and its units are too coarse for both angles to
+// be exact.
 fn faces(script: &mut Script, g: &mut Generator, defined: &Set) {
     for turn in 0..8 {
         let target = target(turn, 2 * (turn % 5) + turn / 2 % 2, turn % 2 == 1);
