@@ -16,6 +16,7 @@
  * What the caller owes, since no function can check it:
  * - a pointer is not null, not even with length 0, and is aligned for what it points to;
  * - as many numbers stand there as the length says (two behind `to` and `part`, one behind `id` and `filled`);
+ * - a box's `empty` is true or false, one of C's two bool values;
  * - no two things that are lent to one call overlap;
  * - a set is not used by two threads at once, unless both only show. Two sets are independent;
  * - the processor is in C's usual floating-point state: rounding to nearest, subnormal numbers kept (no FTZ, no DAZ).
@@ -23,6 +24,7 @@
 #ifndef A5_H
 #define A5_H
 
+#include <stdbool.h>
 #include <stddef.h>
 #include <stdint.h>
 
@@ -123,6 +125,21 @@ uint8_t a5_from_lon_lat(double longitude, double latitude, double to[2]);
 /* From theta and phi on the authalic sphere, in radians (-8 to 8), to longitude and latitude, in degrees: to[0] is the
  * longitude and to[1] the latitude. Refusals: 5, 6, 9. */
 uint8_t a5_to_lon_lat(double theta, double phi, double to[2]);
+
+/* A caption box: the smallest upright rectangle round the points of a face taken in so far. Where it is empty, the four
+ * sides mean nothing. A box is used by one thread at a time. */
+typedef struct {
+    double least_x, greatest_x, least_y, greatest_y;
+    bool empty;
+} a5_box;
+
+/* Makes the box a new one, whatever stood there: empty, with sides 0.0. */
+void a5_box_new(a5_box *box);
+
+/* Takes the point x, y (-4 to 4) in. The first point becomes all four sides; a later one replaces a side exactly when it
+ * is strictly beyond it, so that of -0.0 and 0.0 the first stays. Whatever the sides are, NaN too, the call ends so.
+ * Refusals: 5, 6, for x and then for y; the box then stays as it was. */
+uint8_t a5_box_take(a5_box *box, double x, double y);
 
 #ifdef __cplusplus
 }

@@ -12,7 +12,7 @@ use crate::{Face, LonLat, Place, Refusal, Spherical, Store};
 
 // 0 is an answer. The library is proved to return a number of the table otherwise.
 #[inline]
-fn given<T>(status: u8, answer: T) -> Result<T, Refusal> {
+pub(crate) fn given<T>(status: u8, answer: T) -> Result<T, Refusal> {
     match status {
         0 => Ok(answer),
         n => Err(Refusal::from_number(n).expect("a number of document 01's table")),

@@ -2,16 +2,19 @@
 //!
 //! A [`Set`] owns its buffers and is open from the start; its methods are the calls on it. [`calls`] has the same calls
 //! on slices that the caller keeps elsewhere. Every call is total: it answers, or it is refused with a [`Refusal`] and
-//! changes nothing. Angles of [`LonLat`] are degrees, those of [`Spherical`] are radians.
+//! changes nothing. Angles of [`LonLat`] are degrees, those of [`Spherical`] are radians. A [`CaptionBox`] grows round
+//! the points of one face.
 //!
 //! The calls expect the processor's usual floating-point state: rounding to nearest, subnormal numbers kept.
 
 pub mod calls;
+mod caption;
 mod points;
 mod raw;
 mod refusal;
 mod set;
 
+pub use caption::{CaptionBox, Sides};
 pub use points::{Face, LonLat, Place, Spherical, Store};
 pub use refusal::Refusal;
 pub use set::Set;

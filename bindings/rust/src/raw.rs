@@ -61,4 +61,17 @@ extern "C" {
     pub fn a5_nearest(theta: f64, phi: f64, id: *mut u8) -> u8;
     pub fn a5_from_lon_lat(longitude: f64, latitude: f64, to: *mut [f64; 2]) -> u8;
     pub fn a5_to_lon_lat(theta: f64, phi: f64, to: *mut [f64; 2]) -> u8;
+    pub fn a5_box_new(caption: *mut Caption);
+    pub fn a5_box_take(caption: *mut Caption, x: f64, y: f64) -> u8;
+}
+
+// a5_box.
+#[derive(Clone, Copy)]
+#[repr(C)]
+pub struct Caption {
+    pub least_x: f64,
+    pub greatest_x: f64,
+    pub least_y: f64,
+    pub greatest_y: f64,
+    pub empty: bool,
 }

@@ -6,6 +6,7 @@
 // numbers is lent as a reference to an array of two, in C a pointer: it has no length to be wrong.
 // The caller sees to it that a pointer is not null, that so many numbers stand there, and that no
 // two that are lent overlap.
+pub mod boxes;
 pub mod calls;
 pub mod slots;
 

@@ -2,7 +2,7 @@
 
 use crate::outcome::{show, Outcome};
 
-pub const CALLS: [&str; 10] = [
+pub const CALLS: [&str; 12] = [
     "open",
     "forward",
     "inverse",
@@ -13,6 +13,8 @@ pub const CALLS: [&str; 10] = [
     "to_lon_lat",
     "show",
     "slot_state",
+    "box_new",
+    "box_take",
 ];
 pub const OPEN: usize = 0;
 // the four calls on a set follow in the order of the enum
@@ -22,6 +24,8 @@ pub const FROM_LON_LAT: usize = 6;
 pub const TO_LON_LAT: usize = 7;
 pub const SHOW: usize = 8;
 pub const SLOT_STATE: usize = 9;
+pub const BOX_NEW: usize = 10;
+pub const BOX_TAKE: usize = 11;
 
 #[derive(Clone, Copy, PartialEq)]
 pub enum Where {

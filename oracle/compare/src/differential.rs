@@ -1,5 +1,6 @@
 // The run: for each of N turns one input of every call, on the set that is kept, on newly opened sets and on foreign contents.
 
+use crate::boxes::Boxes;
 use crate::calls::{Call, Forward, Inverse, Place, Unplace};
 use crate::common::fields::{lon_lat, of_lon_lat, of_spherical, spherical};
 use crate::common::refusals::RIGHT;
@@ -116,6 +117,7 @@ struct Run {
     opened: Script,
     foreign: Script,
     alone: Alone,
+    boxes: Boxes,
 }
 
 impl Run {
@@ -133,6 +135,7 @@ impl Run {
                 library: library(Where::Alone),
                 counts: Counts::default(),
             },
+            boxes: Boxes::new(library(Where::Alone), library(Where::Foreign)),
         }
     }
 
@@ -155,6 +158,7 @@ impl Run {
         let (kind, slot) = self.draw.slot();
         self.kept.show(kind, slot, self.draw.lengths(20));
         self.alone.turn(&mut self.draw, &self.kept.set);
+        self.boxes.turn(&mut self.draw, &self.kept.set);
     }
 }
 
@@ -179,6 +183,7 @@ pub fn run(n: u64, seed: u64, spoil: Option<Spoil>) {
     for script in [&run.kept, &run.opened, &run.foreign] {
         counts.add(&script.counts);
     }
+    counts.add(&run.boxes.counts);
     counts.write();
     println!("{n} inputs a call, seed {seed}: no difference");
 }

@@ -76,7 +76,7 @@ pub struct Library {
 // What the functions are owed is pointers to as many numbers as each length says, which the vectors and the locals are: no
 // length is above what a buffer has with those behind it.
 impl Library {
-    fn ended(
+    pub fn ended(
         &mut self,
         call: usize,
         status: u8,

@@ -1,6 +1,9 @@
 // The proved library against the given Rust. Against the Rust with document 01's elementary steps in it: N inputs a call,
 // answers, refusals and whole buffers, bit for bit, up to the first difference. With --distance: how far from the Rust as it is.
 
+#[path = "../../boxes/src/boxes.rs"]
+mod box_oracle;
+mod boxes;
 // What the oracle of the calls on a set has is used here as it stands; `script` alone is another, which compares.
 #[path = "../../calls/src/angle.rs"]
 mod angle;

@@ -18,7 +18,8 @@ fn ended(words: &[&str]) -> (Option<i32>, String) {
 }
 
 // Open has no answer and is tried on sets that are opened anew, the calls that take no set have no buffers, show is not
-// tried on newly opened sets, and only inverse and unplace give 19.
+// tried on newly opened sets, and only inverse and unplace give 19. A box has no buffers but something behind it, and a new
+// one is never refused.
 fn can_be(call: &str, what: &str, place: &str) -> bool {
     let buffers = ["frame", "face", "sphere", "behind"].contains(&what);
     let is_19 = what.ends_with("at 19");
@@ -27,6 +28,8 @@ fn can_be(call: &str, what: &str, place: &str) -> bool {
         _ if is_19 => false,
         "nearest" | "from_lon_lat" | "to_lon_lat" => place == "no set" && !buffers,
         "open" => place == "newly opened" && (buffers || what == "status"),
+        "box_new" => place == "foreign" && ["answer", "status", "behind"].contains(&what),
+        "box_take" => ["foreign", "no set"].contains(&place) && (!buffers || what == "behind"),
         "show" | "slot_state" => ["kept set", "foreign"].contains(&place),
         _ => place != "no set",
     }
