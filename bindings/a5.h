@@ -53,6 +53,10 @@ extern "C" {
 #define A5_ANGLE_LIMIT 8.0       /* theta and phi, radians */
 #define A5_FACE_LIMIT 4.0        /* face x and y */
 
+/* A turn: its channels and the place calls that it hands out. */
+#define A5_CHANNELS 16
+#define A5_TURN_CALLS 256
+
 /* Store kinds. Every number names a store: 0 the face store, any other the sphere store. */
 #define A5_KIND_FACE 0
 #define A5_KIND_SPHERE 1
@@ -76,7 +80,10 @@ enum a5_status {
     A5_REFUSED_RECORD_KIND = 12, /* a record's kind isn't 1 or 2, or kind 1 with a non-zero origin byte */
     A5_REFUSED_CUT_OFF = 13,     /* the input ends inside a record */
     /* Inverse and unplace: a point too far off the face. */
-    A5_REFUSED_ANGLE_OUTSIDE = 19 /* no corner is returned and the angle from the area share is beyond +-64 */
+    A5_REFUSED_ANGLE_OUTSIDE = 19, /* no corner is returned and the angle from the area share is beyond +-64 */
+    /* Fair turns. */
+    A5_REFUSED_WISH_COUNT = 24, /* not exactly 16 wishes */
+    A5_REFUSED_GRANT_COUNT = 25 /* not exactly 16 places for grants */
 };
 
 /* Open: writes the frame and fills both stores with 0.0. Refusals: 1, 2, 3, 7. */
@@ -140,6 +147,12 @@ void a5_box_new(a5_box *box);
  * is strictly beyond it, so that of -0.0 and 0.0 the first stays. Whatever the sides are, NaN too, the call ends so.
  * Refusals: 5, 6, for x and then for y; the box then stays as it was. */
 uint8_t a5_box_take(a5_box *box, double x, double y);
+
+/* Fair turns: hands out a turn's 256 place calls to 16 channels by what each wishes for. A channel first gets the smaller
+ * of its wish and 16; what remains is handed out singly in channel order, round after round, to those still short. So
+ * every channel gets at least the smaller of 16 and its wish, and none more than its wish. What channel k gets goes to
+ * grants[k]. Refusals: 24, 25. */
+uint8_t a5_fair_turns(const uint16_t *wishes, size_t wishes_length, uint16_t *grants, size_t grants_length);
 
 #ifdef __cplusplus
 }

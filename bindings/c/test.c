@@ -1,5 +1,5 @@
 /* The C interface, tried on the linked library: open, refusals, wrong lengths, the session of document 01, a session of
- * place and unplace, and show. Prints what failed and then one line; the exit status is 0 where nothing failed. */
+ * place and unplace, show, and fair turns. Prints what failed and then one line; the exit status is 0 where nothing failed. */
 #include "../a5.h"
 #include <math.h>
 #include <stdio.h>
@@ -273,6 +273,52 @@ static void showing(void) {
     }
 }
 
+/* ---- fair turns */
+
+/* The wishes and the grants of a turn, each with two numbers more behind it. */
+enum { TURN_ROOM = A5_CHANNELS + 2 };
+
+static void grants_are(const uint16_t *wishes, const uint16_t *wanted) {
+    uint16_t grants[TURN_ROOM];
+    for (size_t i = 0; i < TURN_ROOM; i++)
+        grants[i] = 4321;
+    CHECK(a5_fair_turns(wishes, A5_CHANNELS, grants, A5_CHANNELS) == A5_ANSWERED, "fair_turns");
+    CHECK(memcmp(grants, wanted, A5_CHANNELS * sizeof *grants) == 0, "fair_turns");
+    CHECK(grants[A5_CHANNELS] == 4321 && grants[A5_CHANNELS + 1] == 4321, "behind the grants");
+}
+
+static void turn_refused(size_t wishes_length, size_t grants_length, uint8_t number) {
+    const uint16_t wishes[TURN_ROOM] = {1, 2, 3};
+    uint16_t grants[TURN_ROOM], before[TURN_ROOM];
+    for (size_t i = 0; i < TURN_ROOM; i++)
+        before[i] = grants[i] = (uint16_t)(60000 + i);
+    CHECK(a5_fair_turns(wishes, wishes_length, grants, grants_length) == number, "fair_turns");
+    CHECK(memcmp(grants, before, sizeof grants) == 0, "refused turns");
+}
+
+static void fair_turns(void) {
+    const uint16_t none[A5_CHANNELS] = {0}, most = 65535;
+    uint16_t all[A5_CHANNELS], shares[A5_CHANNELS];
+    for (size_t i = 0; i < A5_CHANNELS; i++)
+        all[i] = most, shares[i] = 16;
+    grants_are(none, none);
+    grants_are(all, shares);
+    grants_are(shares, shares);
+    const uint16_t greedy[A5_CHANNELS] = {[9] = most}, whole[A5_CHANNELS] = {[9] = A5_TURN_CALLS};
+    grants_are(greedy, whole);
+    /* 208 calls remain after the first shares: 69 rounds and one call more */
+    const uint16_t three[A5_CHANNELS] = {[2] = most, [5] = 300, [15] = 86};
+    const uint16_t rounds[A5_CHANNELS] = {[2] = 86, [5] = 85, [15] = 85};
+    grants_are(three, rounds);
+
+    const size_t wrong[] = {0, A5_CHANNELS - 1, A5_CHANNELS + 1};
+    for (int w = 0; w < 3; w++) {
+        turn_refused(wrong[w], A5_CHANNELS, A5_REFUSED_WISH_COUNT);
+        turn_refused(A5_CHANNELS, wrong[w], A5_REFUSED_GRANT_COUNT);
+        turn_refused(wrong[w], wrong[w], A5_REFUSED_WISH_COUNT);
+    }
+}
+
 /* ---- sessions */
 
 static int32_t number_at(const uint8_t *bytes) {
@@ -368,6 +414,7 @@ int main(void) {
     wrong_numbers();
     wrong_contents_and_answers();
     showing();
+    fair_turns();
     session_of_document_01();
     session_of_place_and_unplace();
     printf("bindings/c/test: %d checks, %d failed\n", checks, failures);

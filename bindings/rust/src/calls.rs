@@ -235,3 +235,18 @@ pub fn to_lon_lat(position: Spherical) -> Result<LonLat, Refusal> {
         },
     )
 }
+
+/// Hands out a turn's place calls to sixteen channels, as [`fair_turns`](crate::fair_turns()) does, to places that the
+/// caller keeps.
+#[inline]
+pub fn fair_turns(wishes: &[u16], grants: &mut [u16]) -> Result<(), Refusal> {
+    let status = unsafe {
+        raw::a5_fair_turns(
+            wishes.as_ptr(),
+            wishes.len(),
+            grants.as_mut_ptr(),
+            grants.len(),
+        )
+    };
+    given(status, ())
+}

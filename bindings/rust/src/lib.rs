@@ -5,6 +5,8 @@
 //! changes nothing. Angles of [`LonLat`] are degrees, those of [`Spherical`] are radians. A [`CaptionBox`] grows round
 //! the points of one face.
 //!
+//! [`fair_turns`](fair_turns()) hands out a turn's place calls to sixteen channels.
+//!
 //! The calls expect the processor's usual floating-point state: rounding to nearest, subnormal numbers kept.
 
 pub mod calls;
@@ -13,12 +15,16 @@ mod points;
 mod raw;
 mod refusal;
 mod set;
+mod turns;
 
 pub use caption::{CaptionBox, Sides};
 pub use points::{Face, LonLat, Place, Spherical, Store};
 pub use refusal::Refusal;
 pub use set::Set;
+pub use turns::fair_turns;
 
+/// How many channels take part in a turn.
+pub const CHANNELS: usize = 16;
 /// How many numbers the frame has: 62 rows of 3.
 pub const FRAME: usize = 186;
 /// How many numbers the face store has: 30 slots of 7.

@@ -63,6 +63,12 @@ extern "C" {
     pub fn a5_to_lon_lat(theta: f64, phi: f64, to: *mut [f64; 2]) -> u8;
     pub fn a5_box_new(caption: *mut Caption);
     pub fn a5_box_take(caption: *mut Caption, x: f64, y: f64) -> u8;
+    pub fn a5_fair_turns(
+        wishes: *const u16,
+        wishes_length: usize,
+        grants: *mut u16,
+        grants_length: usize,
+    ) -> u8;
 }
 
 // a5_box.

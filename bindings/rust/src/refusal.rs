@@ -33,11 +33,15 @@ pub enum Refusal {
     /// Inverse and unplace: no corner is returned, and the angle from the area share is finite and beyond ±64: the point is
     /// too far off the face.
     AngleOutside = 19,
+    /// Fair turns: not exactly 16 wishes.
+    WishCount = 24,
+    /// Fair turns: not exactly 16 places for grants.
+    GrantCount = 25,
 }
 
 impl Refusal {
     /// Every refusal, in the table's order.
-    pub const ALL: [Refusal; 14] = [
+    pub const ALL: [Refusal; 16] = [
         Refusal::FrameLength,
         Refusal::FaceStoreLength,
         Refusal::SphereStoreLength,
@@ -52,6 +56,8 @@ impl Refusal {
         Refusal::RecordKind,
         Refusal::CutOff,
         Refusal::AngleOutside,
+        Refusal::WishCount,
+        Refusal::GrantCount,
     ];
 
     /// The number in the table.

@@ -36,6 +36,10 @@ numberOf refusal.RecordKind = 12
 numberOf refusal.CutOff = 13
 -- Paper 7: inverse and unplace: no corner is returned, and the angle from the area share is finite and beyond ±64
 numberOf refusal.AngleOutside = 19
+-- turns: not exactly 16 wishes
+numberOf refusal.WishCount = 24
+-- turns: not exactly 16 grant places
+numberOf refusal.GrantCount = 25
 
 abbrev pub givenCheck : Check → Given (Unit {0})
 givenCheck check.Passed = passed

@@ -21,6 +21,10 @@ pub enum Refusal {
     CutOff,
     // Paper 7: inverse and unplace, for a point too far off the face
     AngleOutside,
+    // turns: not exactly 16 wishes
+    WishCount,
+    // turns: not exactly 16 grant places
+    GrantCount,
 }
 
 // The number of a refusal.
@@ -42,6 +46,8 @@ pub fn number(r: Refusal) -> u8
         Refusal::RecordKind => 12,
         Refusal::CutOff => 13,
         Refusal::AngleOutside => 19,
+        Refusal::WishCount => 24,
+        Refusal::GrantCount => 25,
     }
 }
 

@@ -8,6 +8,7 @@
 // two that are lent overlap.
 pub mod boxes;
 pub mod calls;
+pub mod channels;
 pub mod slots;
 
 use coordinates::base::Degrees;

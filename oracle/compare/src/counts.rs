@@ -2,7 +2,7 @@
 
 use crate::outcome::{show, Outcome};
 
-pub const CALLS: [&str; 12] = [
+pub const CALLS: [&str; 13] = [
     "open",
     "forward",
     "inverse",
@@ -15,6 +15,7 @@ pub const CALLS: [&str; 12] = [
     "slot_state",
     "box_new",
     "box_take",
+    "fair_turns",
 ];
 pub const OPEN: usize = 0;
 // the four calls on a set follow in the order of the enum
@@ -26,6 +27,7 @@ pub const SHOW: usize = 8;
 pub const SLOT_STATE: usize = 9;
 pub const BOX_NEW: usize = 10;
 pub const BOX_TAKE: usize = 11;
+pub const FAIR_TURNS: usize = 12;
 
 #[derive(Clone, Copy, PartialEq)]
 pub enum Where {
@@ -43,7 +45,7 @@ pub const PLACES: [(Where, &str); 4] = [
 ];
 
 // Above every refusal's number.
-const NUMBERS: usize = 20;
+const NUMBERS: usize = 27;
 
 #[derive(Clone, Default)]
 pub struct Counts {

@@ -13,6 +13,7 @@ use crate::outcome::Outcome;
 use crate::script::Script;
 use crate::set::Set;
 use crate::spoil::Spoil;
+use crate::turns_compared::Turns;
 use crate::{conversions, nearest, outside, refused};
 
 const FOUR: [Call; 4] = [Forward, Inverse, Place, Unplace];
@@ -118,6 +119,7 @@ struct Run {
     foreign: Script,
     alone: Alone,
     boxes: Boxes,
+    turns: Turns,
 }
 
 impl Run {
@@ -136,6 +138,7 @@ impl Run {
                 counts: Counts::default(),
             },
             boxes: Boxes::new(library(Where::Alone), library(Where::Foreign)),
+            turns: Turns::new(seed, library(Where::Alone)),
         }
     }
 
@@ -144,6 +147,7 @@ impl Run {
             foreign::all(&mut self.foreign, &mut self.draw.g);
             outside::all(&mut self.foreign, &mut self.draw.g);
             refused::lengths(&mut self.foreign);
+            self.turns.listed();
         }
         open(&mut self.opened, &mut self.draw);
         if turn % A_SET == 0 {
@@ -159,6 +163,7 @@ impl Run {
         self.kept.show(kind, slot, self.draw.lengths(20));
         self.alone.turn(&mut self.draw, &self.kept.set);
         self.boxes.turn(&mut self.draw, &self.kept.set);
+        self.turns.any();
     }
 }
 
@@ -180,6 +185,7 @@ pub fn run(n: u64, seed: u64, spoil: Option<Spoil>) {
         run.kept.check_kept();
     }
     let mut counts = run.alone.counts;
+    counts.add(&run.turns.counts);
     for script in [&run.kept, &run.opened, &run.foreign] {
         counts.add(&script.counts);
     }

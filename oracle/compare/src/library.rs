@@ -3,7 +3,9 @@
 use crate::calls::{Call, Forward, Inverse, Place};
 use crate::common::fields::{of_whole, whole};
 use crate::common::refusals::RIGHT;
-use crate::counts::{FORWARD, FROM_LON_LAT, NEAREST, OPEN, SHOW, SLOT_STATE, TO_LON_LAT};
+use crate::counts::{
+    FAIR_TURNS, FORWARD, FROM_LON_LAT, NEAREST, OPEN, SHOW, SLOT_STATE, TO_LON_LAT,
+};
 use crate::outcome::{show, Outcome, BEFORE};
 use crate::raw;
 use crate::set::Set;
@@ -21,6 +23,13 @@ fn of_byte(byte: u8) -> f64 {
         BYTE_BEFORE => BEFORE,
         n => whole(n as usize),
     }
+}
+
+// Places for grants, those that are not lent first.
+pub fn of_places(places: &[u16], lent: usize) -> Vec<f64> {
+    let (lent, behind) = places.split_at(lent);
+    let all = behind.iter().chain(lent);
+    all.map(|n| whole(usize::from(*n))).collect()
 }
 
 // Frame, face store, sphere store.
@@ -175,5 +184,12 @@ impl Library {
         let status =
             unsafe { raw::a5_slot_state(face, lent[1], sphere, lent[2], kind, slot, &mut filled) };
         self.ended(SLOT_STATE, status, vec![of_byte(filled)], Some(buffers))
+    }
+
+    // All places, those that are not lent first, as whole numbers.
+    pub fn fair_turns(&mut self, wishes: &[u16], places: &mut [u16], lent: usize) -> Outcome {
+        let (n, m) = (wishes.len(), lent.min(places.len()));
+        let status = unsafe { raw::a5_fair_turns(wishes.as_ptr(), n, places.as_mut_ptr(), m) };
+        self.ended(FAIR_TURNS, status, of_places(places, m), None)
     }
 }

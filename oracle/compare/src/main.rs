@@ -47,7 +47,14 @@ mod series_distance;
 mod set;
 mod spoil;
 mod step_distance;
+#[path = "../../turns/src/inputs.rs"]
+mod turn_inputs;
+#[path = "../../turns/src/turns.rs"]
+mod turns;
+mod turns_compared;
 
+// where the files of other oracles look for it
+use common::generator;
 use spoil::Spoil;
 
 fn number(word: &str) -> u64 {

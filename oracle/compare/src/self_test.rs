@@ -27,6 +27,7 @@ fn can_be(call: &str, what: &str, place: &str) -> bool {
         "inverse" | "unplace" => place != "no set",
         _ if is_19 => false,
         "nearest" | "from_lon_lat" | "to_lon_lat" => place == "no set" && !buffers,
+        "fair_turns" => place == "no set" && (!buffers || what == "behind"),
         "open" => place == "newly opened" && (buffers || what == "status"),
         "box_new" => place == "foreign" && ["answer", "status", "behind"].contains(&what),
         "box_take" => ["foreign", "no set"].contains(&place) && (!buffers || what == "behind"),

@@ -56,8 +56,8 @@ impl Spoil {
             ("sphere", _, _, Some(b)) => flip(&mut b.numbers[2][1234]),
             ("sphere at 19", 19, _, Some(b)) => flip(&mut b.numbers[2][1200]),
             ("behind", _, _, Some(b)) => flip(&mut b.numbers[2][2400]),
-            // a box's outcome has what stands around it first
-            ("behind", _, _, None) => flip(&mut outcome.numbers[1]),
+            // a box's outcome has what stands around it first, that of fair turns a place that is not lent
+            ("behind", 0, _, None) => flip(&mut outcome.numbers[0]),
             _ => return false,
         }
         true
