@@ -3,9 +3,9 @@
  *
  * Link with libexports.a, which `rt staticlib exports` writes, and with the C library's mathematics: -lexports -lm.
  *
- * Every call returns A5_ANSWERED (0), or the number of its refusal. An answer goes to the memory that is lent for it
- * (to, id, filled, part). A refused call leaves everything lent as it was, bit for bit. Any number may be passed:
- * what is outside the limits is refused, and every call ends.
+ * Every call returns A5_ANSWERED (0), or the number of its refusal; a5_box_new alone returns nothing, since it is never
+ * refused. An answer goes to the memory that is lent for it (to, id, filled, part, box). A refused call leaves everything
+ * lent as it was, bit for bit. Any number may be passed: what is outside the limits is refused, and every call ends.
  *
  * A set is three buffers of double that the caller owns: the frame, the face store and the sphere store. It is lent to
  * each call, each buffer as a pointer and how many numbers there are. a5_open makes it ready; forward, inverse, place
@@ -79,6 +79,9 @@ enum a5_status {
     A5_REFUSED_HEADER = 11,      /* the input's header is missing, wrong or short */
     A5_REFUSED_RECORD_KIND = 12, /* a record's kind isn't 1 or 2, or kind 1 with a non-zero origin byte */
     A5_REFUSED_CUT_OFF = 13,     /* the input ends inside a record */
+    /* A window's. */
+    A5_REFUSED_EARLIER_MINUTE = 17, /* the minute is earlier than the last accepted one */
+    A5_REFUSED_WINDOW_FULL = 18,    /* 4,096 strikes remain after the drop */
     /* Inverse and unplace: a point too far off the face. */
     A5_REFUSED_ANGLE_OUTSIDE = 19, /* no corner is returned and the angle from the area share is beyond +-64 */
     /* Fair turns. */
@@ -153,6 +156,36 @@ uint8_t a5_box_take(a5_box *box, double x, double y);
  * every channel gets at least the smaller of 16 and its wish, and none more than its wish. What channel k gets goes to
  * grants[k]. Refusals: 24, 25. */
 uint8_t a5_fair_turns(const uint16_t *wishes, size_t wishes_length, uint16_t *grants, size_t grants_length);
+
+/* How many strikes a window keeps at most, and how many minutes it looks back. */
+#define A5_WINDOW_MOST 4096
+#define A5_WINDOW_MINUTES 180
+
+/* A window of strikes: those accepted whose minute is less than 180 behind the last accepted one, and how many of them
+ * each origin has. The caller owns it, 20,540 bytes aligned to 4, and lends it to the calls; it is not used by two
+ * threads at once, unless both only read. Its fields are the library's. Whatever they hold, each call ends; what the
+ * calls say of the strikes holds for a window that a5_window_new made empty and only a5_window_add wrote since. */
+typedef struct a5_window {
+    uint32_t minutes[A5_WINDOW_MOST];
+    uint8_t origins[A5_WINDOW_MOST];
+    uint32_t counts[A5_ORIGINS];
+    struct {
+        uint32_t first, kept, last;
+    } state;
+} a5_window;
+
+/* New: makes a window empty, whatever stood there. */
+void a5_window_new(a5_window *window);
+
+/* Add: drops the strikes that are 180 minutes or more behind this one, and keeps it. A minute equal to the last accepted
+ * one is accepted. Refusals, in this order: 4, 17, 18; then nothing is dropped. */
+uint8_t a5_window_add(a5_window *window, uint32_t minute, uint8_t origin);
+
+/* How many of the kept strikes each origin has. Only reads the window. */
+void a5_window_counts(const a5_window *window, uint32_t counts[A5_ORIGINS]);
+
+/* How many strikes are kept: the sum of the counts. Only reads. */
+uint32_t a5_window_kept(const a5_window *window);
 
 #ifdef __cplusplus
 }

@@ -3,7 +3,7 @@
 //! A [`Set`] owns its buffers and is open from the start; its methods are the calls on it. [`calls`] has the same calls
 //! on slices that the caller keeps elsewhere. Every call is total: it answers, or it is refused with a [`Refusal`] and
 //! changes nothing. Angles of [`LonLat`] are degrees, those of [`Spherical`] are radians. A [`CaptionBox`] grows round
-//! the points of one face.
+//! the points of one face, and a [`Window`] keeps the last 180 minutes of strikes.
 //!
 //! [`fair_turns`](fair_turns()) hands out a turn's place calls to sixteen channels.
 //!
@@ -16,12 +16,14 @@ mod raw;
 mod refusal;
 mod set;
 mod turns;
+mod window;
 
 pub use caption::{CaptionBox, Sides};
 pub use points::{Face, LonLat, Place, Spherical, Store};
 pub use refusal::Refusal;
 pub use set::Set;
 pub use turns::fair_turns;
+pub use window::Window;
 
 /// How many channels take part in a turn.
 pub const CHANNELS: usize = 16;

@@ -69,6 +69,10 @@ extern "C" {
         grants: *mut u16,
         grants_length: usize,
     ) -> u8;
+    pub fn a5_window_new(window: *mut Window);
+    pub fn a5_window_add(window: *mut Window, minute: u32, origin: u8) -> u8;
+    pub fn a5_window_counts(window: *const Window, counts: *mut [u32; 12]);
+    pub fn a5_window_kept(window: *const Window) -> u32;
 }
 
 // a5_box.
@@ -80,4 +84,16 @@ pub struct Caption {
     pub least_y: f64,
     pub greatest_y: f64,
     pub empty: bool,
+}
+
+// A window of strikes, as the library lays it out.
+#[repr(C)]
+#[derive(Clone)]
+pub struct Window {
+    pub minutes: [u32; 4096],
+    pub origins: [u8; 4096],
+    pub counts: [u32; 12],
+    pub first: u32,
+    pub kept: u32,
+    pub last: u32,
 }

@@ -30,6 +30,10 @@ pub enum Refusal {
     RecordKind = 12,
     /// The strike program's: the input ends inside a record.
     CutOff = 13,
+    /// A window's: the minute is earlier than the last accepted one.
+    EarlierMinute = 17,
+    /// A window's: 4,096 strikes remain after the drop.
+    WindowFull = 18,
     /// Inverse and unplace: no corner is returned, and the angle from the area share is finite and beyond ±64: the point is
     /// too far off the face.
     AngleOutside = 19,
@@ -41,7 +45,7 @@ pub enum Refusal {
 
 impl Refusal {
     /// Every refusal, in the table's order.
-    pub const ALL: [Refusal; 16] = [
+    pub const ALL: [Refusal; 18] = [
         Refusal::FrameLength,
         Refusal::FaceStoreLength,
         Refusal::SphereStoreLength,
@@ -55,6 +59,8 @@ impl Refusal {
         Refusal::Header,
         Refusal::RecordKind,
         Refusal::CutOff,
+        Refusal::EarlierMinute,
+        Refusal::WindowFull,
         Refusal::AngleOutside,
         Refusal::WishCount,
         Refusal::GrantCount,

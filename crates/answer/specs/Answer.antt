@@ -6,7 +6,7 @@ use Rattle.answer.specs.declared.Refusal.the-variants as refusal
 use Rattle.answer.specs.declared.Check.{Check}
 use Rattle.answer.specs.declared.Check.the-variants as check
 
--- document 01, "Calls and their numbers": the table, row by row
+-- document 01, "Calls and their numbers": the table, row by row; then document 02's
 abbrev pub numberOf : Refusal → ℕ
 -- frame isn't 186 long
 numberOf refusal.FrameLength = 1
@@ -34,6 +34,10 @@ numberOf refusal.Header = 11
 numberOf refusal.RecordKind = 12
 -- program: input ends inside a record
 numberOf refusal.CutOff = 13
+-- Paper 5: the minute is earlier than the last accepted one
+numberOf refusal.EarlierMinute = 17
+-- Paper 5: 4,096 strikes remain after the drop
+numberOf refusal.WindowFull = 18
 -- Paper 7: inverse and unplace: no corner is returned, and the angle from the area share is finite and beyond ±64
 numberOf refusal.AngleOutside = 19
 -- turns: not exactly 16 wishes

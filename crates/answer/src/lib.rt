@@ -4,7 +4,7 @@ ghost use lib.Ieee.{binary64, toBits};
 ghost use Rattle.answer.specs.Answer.{numberOf, givenCheck};
 ghost use Rattle.answer.specs.Number.{isFinite, checkNumber};
 
-// One variant for each number of document 01's table, in its order.
+// One variant for each number of document 01's table, in its order, and then those that a paper of document 02 adds.
 pub enum Refusal {
     FrameLength,
     FaceStoreLength,
@@ -19,6 +19,10 @@ pub enum Refusal {
     Header,
     RecordKind,
     CutOff,
+    // The minute of a strike is before that of the last one accepted (Paper 5, 17).
+    EarlierMinute,
+    // A window has no place left for a strike (Paper 5, 18).
+    WindowFull,
     // Paper 7: inverse and unplace, for a point too far off the face
     AngleOutside,
     // turns: not exactly 16 wishes
@@ -45,6 +49,8 @@ pub fn number(r: Refusal) -> u8
         Refusal::Header => 11,
         Refusal::RecordKind => 12,
         Refusal::CutOff => 13,
+        Refusal::EarlierMinute => 17,
+        Refusal::WindowFull => 18,
         Refusal::AngleOutside => 19,
         Refusal::WishCount => 24,
         Refusal::GrantCount => 25,

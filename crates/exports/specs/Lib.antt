@@ -2,3 +2,4 @@
 pub mod Calls
 pub mod Slots
 pub mod Boxes
+pub mod Windows

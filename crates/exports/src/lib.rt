@@ -10,6 +10,7 @@ pub mod boxes;
 pub mod calls;
 pub mod channels;
 pub mod slots;
+pub mod windows;
 
 use coordinates::base::Degrees;
 use coordinates::base::Radians;

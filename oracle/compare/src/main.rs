@@ -47,6 +47,13 @@ mod series_distance;
 mod set;
 mod spoil;
 mod step_distance;
+#[allow(dead_code)]
+#[path = "../../window/src/window.rs"]
+mod window;
+#[path = "../../window/src/draw.rs"]
+mod window_draw;
+mod windows;
+
 #[path = "../../turns/src/inputs.rs"]
 mod turn_inputs;
 #[path = "../../turns/src/turns.rs"]
@@ -69,6 +76,9 @@ fn main() {
         ["--self-test"] => self_test::run(),
         ["--distance", n, seed] => distance::run(number(n) as usize, number(seed)),
         [n, seed] => differential::run(number(n), number(seed), None),
+        [n, seed, "window", what, place] => {
+            windows::run(number(n), number(seed), Some((what, place)))
+        }
         [n, seed, call, what, place] => {
             let spoil = Spoil::named(call, what, place).expect("a call, what is changed and where");
             differential::run(number(n), number(seed), Some(spoil));

@@ -3,6 +3,7 @@
 
 use crate::counts::{CALLS, PLACES};
 use crate::spoil::WHATS;
+use crate::windows;
 use std::process::Command;
 
 // How a run ended, and its first line.
@@ -47,6 +48,14 @@ pub fn run() {
                 assert!(found, "{call}, {what}, {place}: {status:?} {line}");
                 tried += 1;
             }
+        }
+    }
+    for what in windows::WHATS {
+        for place in windows::PLACES {
+            let (status, line) = ended(&["window", what, place]);
+            let found = status == Some(1) && line == format!("DIFFERENCE in window ({place})");
+            assert!(found, "window, {what}, {place}: {status:?} {line}");
+            tried += 1;
         }
     }
     println!("{tried} changes of one bit, each found");

@@ -1,0 +1,78 @@
+-- Paper 5: what an addition gives and what it leaves, whatever the window holds. On a window that only additions wrote, this is what `Kept` says of the list of
+-- accepted additions (`EveryList`). Definitions only.
+use Prim.Native.Nat.{ℕ, zero, suc, _+_, _-_, _%_, _^_, min}
+use mathlib.Core.Path.{_≡_}
+use mathlib.Core.Bool.{cond}
+use mathlib.Core.List.{List}
+use lib.Dec.{leb, ltb}
+use lib.ListN.{getD, set}
+use Rattle.answer.specs.Given.{Given, answered, refused, passed, refuseIf}
+use Rattle.answer.specs.Answer.{numberOf}
+use Rattle.window.specs.declared.Window.{Window}
+use Rattle.window.specs.declared.AddAnswer.{AddAnswer}
+use Rattle.window.specs.declared.AddAnswer.the-variants as answer
+use Rattle.window.specs.Window.{MOST, SPAN, windowOf, stateOf}
+
+abbrev pub givenAdd : AddAnswer → Given (Unit {0})
+givenAdd answer.Added = passed
+givenAdd (answer.Refused n) = refused (numberOf n)
+
+-- one less, and one more, for origin k: a count stays at 0, and starts again after 2³² − 1. An origin above 11 has no count
+unfoldable pub lower : List ℕ → ℕ → List ℕ
+lower counts k = cond (ltb k 12) (set counts k (getD counts k 0 - 1)) counts
+
+unfoldable pub raise : List ℕ → ℕ → List ℕ
+raise counts k = cond (ltb k 12) (set counts k ((getD counts k 0 + 1) % 2 ^ 32)) counts
+
+-- the place after a place: the first follows the last
+abbrev pub next : ℕ → ℕ
+next at = (at + 1) % MOST
+
+-- "first drops those whose minute is 180 or more behind it", from the oldest on: how many of n strikes from place `at` on remain at minute m
+unfoldable pub remain : List ℕ → ℕ → ℕ → ℕ → ℕ
+remain minutes m zero at = 0
+remain minutes m (suc n) at = cond (leb SPAN (m - getD minutes at 0)) (remain minutes m n (next at)) (suc n)
+
+-- one less for each of n strikes from place `at` on
+unfoldable pub lowered : List ℕ → ℕ → ℕ → List ℕ → List ℕ
+lowered origins zero at counts = counts
+lowered origins (suc n) at counts = lowered origins n (next at) (lower counts (getD origins at 0))
+
+-- how many strikes a window holds, and how many of them remain at minute m
+unfoldable pub held : Window → ℕ
+held w = min (w .state .kept) MOST
+
+unfoldable pub remaining : Window → ℕ → ℕ
+remaining w m = remain (w .minutes) m (held w) (w .state .first % MOST)
+
+-- the window without the strikes that are dropped, and with the new one in the place after those that remain
+unfoldable pub withStrike : Window → ℕ → ℕ → Window
+withStrike w m o =
+    let k = remaining w m in
+    let gone = held w - k in
+    let first = (w .state .first + gone) % MOST in
+    let at = (first + k) % MOST in
+    windowOf
+    (set (w .minutes) at m)
+    (set (w .origins) at o)
+    (raise (lowered (w .origins) gone (w .state .first % MOST) (w .counts)) o)
+    (stateOf first (k + 1) m)
+
+-- what an addition gives: "An id above 11 still gets 4, tried first", 17 where "the minute is earlier than the last accepted one", and 18 where "4,096 strikes
+-- remain after the drop, tried last"
+unfoldable pub addGiven : Window → ℕ → ℕ → Given (Unit {0})
+addGiven w m o =
+    refuseIf (ltb 11 o) 4
+    (refuseIf (ltb m (w .state .last)) 17
+    (refuseIf (leb MOST (remaining w m)) 18
+    passed))
+
+-- the window after it: "a refused strike drops nothing"
+abbrev pub windowAfter : Given (Unit {0}) → Window → ℕ → ℕ → Window
+windowAfter (refused n) w m o = w
+windowAfter (answered u) w m o = withStrike w m o
+
+-- an addition to the window w answers a, and leaves v
+pub record AddedTo (w : Window) (m o : ℕ) (a : AddAnswer) (v : Window) : Type 0 where
+  pub answer : givenAdd a ≡ addGiven w m o
+  pub window : v ≡ windowAfter (addGiven w m o) w m o

@@ -1,0 +1,191 @@
+// Paper 5: a window of strikes. It keeps those whose minute is less than 180 behind that of the last one accepted, at most
+// 4,096, in a ring, and counts them by origin. `add` is lent the window and copies none of its arrays; `add_to_parts` does
+// the work, on the arrays and a small state. No function has a `requires`: whatever a window holds, an addition ends.
+use answer::Refusal;
+ghost use mathlib.Core.Path.{_≡_};
+ghost use Prim.Native.Nat.{_-_, _%_, min};
+ghost use Rattle.window.specs.Window.{windowOf, emptyWindow};
+ghost use Rattle.window.specs.Addition.{lower, raise, remain, lowered, AddedTo};
+
+// What a window knows beside its strikes and counts: the place of the oldest strike, how many are kept, and the minute of
+// the last one accepted.
+#[repr(C)]
+pub struct State {
+    pub first: u32,
+    pub kept: u32,
+    pub last: u32,
+}
+
+// The kept strikes lie in the first two arrays from place `first` on, oldest first, and place 0 follows place 4,095.
+// `counts` has how many of them each origin has.
+#[repr(C)]
+pub struct Window {
+    pub minutes: [u32; 4096],
+    pub origins: [u8; 4096],
+    pub counts: [u32; 12],
+    pub state: State,
+}
+
+// How an addition ends.
+pub enum AddAnswer {
+    Added,
+    Refused(Refusal),
+}
+
+// The answer of an addition, and the state after it.
+pub struct Step {
+    pub answer: AddAnswer,
+    pub state: State,
+}
+
+// A new window, which is empty.
+pub fn new() -> Window
+    ensures { λ r. ⌜ r ≡ emptyWindow ⌝ }
+{
+    let minutes = [0u32; 4096];
+    let origins = [0u8; 4096];
+    let counts = [0u32; 12];
+    let state = State {
+        first: 0,
+        kept: 0,
+        last: 0,
+    };
+    Window {
+        minutes: minutes,
+        origins: origins,
+        counts: counts,
+        state: state,
+    }
+}
+
+// a - b, and 0 where b is the greater.
+fn saturating_sub(a: u32, b: u32) -> u32
+    ensures { λ r. ⌜ r ≡ a - b ⌝ }
+{
+    if b < a { a - b } else { 0 }
+}
+
+// The lesser of two numbers.
+fn lesser(a: u32, b: u32) -> u32
+    ensures { λ r. ⌜ r ≡ min a b ⌝ }
+{
+    if a < b { a } else { b }
+}
+
+// Counts one less for an origin.
+fn lower_count(counts: &mut [u32; 12], origin: u8)
+    ensures { λ _. ⌜ now (counts .exit) ≡ lower (now (counts .entry)) origin ⌝ }
+{
+    let k = origin as usize;
+    if k < 12 {
+        counts[k] = saturating_sub(counts[k], 1);
+    }
+}
+
+// Counts one more for an origin.
+fn raise_count(counts: &mut [u32; 12], origin: u8)
+    ensures { λ _. ⌜ now (counts .exit) ≡ raise (now (counts .entry)) origin ⌝ }
+{
+    let k = origin as usize;
+    if k < 12 {
+        counts[k] = std::num::wrapping_add_u32(counts[k], 1);
+    }
+}
+
+// How many of n strikes from a place on are left when, from the oldest on, those are dropped that are 180 minutes or more
+// behind `minute`.
+fn remaining(minutes: &[u32; 4096], minute: u32, n: u32, from: u32) -> u32
+    ensures { λ r. ⌜ r ≡ remain (now (minutes .entry)) minute n (from % 4096) ⌝ }
+{
+    let mut at = (from as usize) % 4096;
+    let mut k = n;
+    while 0 < k {
+        if saturating_sub(minute, minutes[at]) < 180 {
+            return k;
+        }
+        at = (at + 1) % 4096;
+        k -= 1;
+    }
+    0
+}
+
+// Counts one less for the origin of each of n strikes from a place on.
+fn lower_counts(origins: &[u8; 4096], counts: &mut [u32; 12], n: u32, from: u32)
+    ensures { λ _. ⌜ now (counts .exit) ≡ lowered (now (origins .entry)) n (from % 4096) (now (counts .entry)) ⌝ }
+{
+    let mut at = (from as usize) % 4096;
+    let mut k = n;
+    while 0 < k {
+        lower_count(counts, origins[at]);
+        at = (at + 1) % 4096;
+        k -= 1;
+    }
+}
+
+// A refused addition leaves the state as it was.
+fn refused(n: Refusal, state: State) -> Step
+    ensures { λ r. ⌜ r ≡ record { answer = AddAnswer.Refused n; state = state } ⌝ }
+{
+    Step {
+        answer: AddAnswer::Refused(n),
+        state: state,
+    }
+}
+
+// One addition, on the parts of a window. Nothing is written before the last refusal was tried.
+pub fn add_to_parts(
+    minutes: &mut [u32; 4096],
+    origins: &mut [u8; 4096],
+    counts: &mut [u32; 12],
+    state: State,
+    minute: u32,
+    origin: u8,
+) -> Step
+    ensures { λ r. ⌜ AddedTo (windowOf (now (minutes .entry)) (now (origins .entry)) (now (counts .entry)) state) minute origin
+        (r .answer) (windowOf (now (minutes .exit)) (now (origins .exit)) (now (counts .exit)) (r .state)) ⌝ }
+{
+    if origin > 11 {
+        return refused(Refusal::UnknownOrigin, state);
+    }
+    if minute < state.last {
+        return refused(Refusal::EarlierMinute, state);
+    }
+    let first = state.first;
+    let n = lesser(state.kept, 4096);
+    let k = remaining(minutes, minute, n, first);
+    if k >= 4096 {
+        return refused(Refusal::WindowFull, state);
+    }
+    let gone = saturating_sub(n, k);
+    lower_counts(origins, counts, gone, first);
+    raise_count(counts, origin);
+    let oldest = ((first as usize) + (gone as usize)) % 4096;
+    let at = (oldest + (k as usize)) % 4096;
+    minutes[at] = minute;
+    origins[at] = origin;
+    Step {
+        answer: AddAnswer::Added,
+        state: State {
+            first: oldest as u32,
+            kept: k + 1,
+            last: minute,
+        },
+    }
+}
+
+// One addition to the window that is lent: strikes 180 minutes or more behind it are dropped, and it is kept; or it is
+// refused with 4, 17 or 18, and the window is as it was.
+pub fn add(window: &mut Window, minute: u32, origin: u8) -> AddAnswer
+    ensures { λ r. ⌜ AddedTo (now (window .entry)) minute origin r (now (window .exit)) ⌝ }
+{
+    let s = add_to_parts(
+        &mut window.minutes,
+        &mut window.origins,
+        &mut window.counts,
+        window.state,
+        minute,
+        origin,
+    );
+    window.state = s.state;
+    s.answer
+}
