@@ -1,7 +1,7 @@
 /*
  * Twelve faces for regional maps: the calls of the proved library, for C and C++ on x86-64.
  *
- * Link with libexports.a, which `rt staticlib exports` writes, and with the C library's mathematics: -lexports -lm.
+ * Link with libexports.a, which `rt staticlib exports` writes: -lexports.
  *
  * Every call returns A5_ANSWERED (0), or the number of its refusal; a5_box_new alone returns nothing, since it is never
  * refused. An answer goes to the memory that is lent for it (to, id, filled, part, box). A refused call leaves everything

@@ -30,7 +30,6 @@ on_a_set! {
 }
 
 #[link(name = "exports", kind = "static")]
-#[link(name = "m")]
 extern "C" {
     pub fn a5_open(
         frame: *mut f64,

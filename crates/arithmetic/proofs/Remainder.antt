@@ -19,7 +19,7 @@ use Rattle.arithmetic.proofs.Units.{rise, Units, fitting, count, count-
 
 -- ---- `%` of whole numbers
 
-mod-scale : (a b c : ℕ) → 0 < b → 0 < c → a * c % (b * c) ≡ a % b * c
+pub mod-scale : (a b c : ℕ) → 0 < b → 0 < c → a * c % (b * c) ≡ a % b * c
 mod-scale a b c B C =
     ap (λ n. n % (b * c)) (ap (λ n. n * c) (sym (div-add-mod' a b)) ∙ add-mul (a / b * b) (a % b) c ∙ ap (λ n. n + a % b * c) (mul-assoc (a / b) b c))
     ∙ digits-mod (a / b) (mul-lt-mul-of-pos-right (mod-lt a B) C)
@@ -50,7 +50,7 @@ mod-short p m j n k mh nh N = go (decLe k j)
 
 -- ---- `%` of values
 
-rem-is : (f : Format) (s : Bool) (m : ℕ) (e : ℤ) (t : Bool) (n : ℕ) (d : ℤ) → 0 < n → rem f (fin s m e) (fin t n d) ≡ round f s (m * up e * down d % (n * up d * down e)) (down e * down d)
+pub rem-is : (f : Format) (s : Bool) (m : ℕ) (e : ℤ) (t : Bool) (n : ℕ) (d : ℤ) → 0 < n → rem f (fin s m e) (fin t n d) ≡ round f s (m * up e * down d % (n * up d * down e)) (down e * down d)
 unfolding rem
 rem-is f s m e t zero d N = absurd (lt-irrefl 0 N)
 rem-is f s m e t (suc n) d N = ap (λ b. cond b nan (round f s (m * up e * down d % (suc n * up d * down e)) (down e * down d))) (eqb·suc-zero n)

@@ -13,6 +13,7 @@ use crate::vec2::Vec2;
 use crate::vec3::Vec3;
 use elementary::arctangent::atan2;
 use elementary::sine::sin_cos_inside;
+use remainder::remainder;
 use square_root::root::sqrt;
 ghost use mathlib.Core.Path.{_≡_};
 ghost use mathlib.Core.Bool.{false};
@@ -148,7 +149,8 @@ pub fn from_lon_lat(lonlat: LonLat) -> Spherical
 pub fn normalize_longitude(lon: Degrees) -> Degrees
     ensures { λ r. ⌜ r ≡ normalizeLongitude ieee lon ⌝ }
 {
-    Degrees(((lon.0 + 180.0) % 360.0 + 360.0) % 360.0 - 180.0)
+    let turned = remainder(lon.0 + 180.0, 360.0);
+    Degrees(remainder(turned + 360.0, 360.0) - 180.0)
 }
 
 // The conversion without its checks.

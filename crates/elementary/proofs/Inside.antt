@@ -19,6 +19,7 @@ use Rattle.arithmetic.specs.Numbers.{1·0}
 use Rattle.arithmetic.proofs.Bounds.{Within, within, clear, own, wider, le-within, neg-within, within-lt, round-within, mul-within, sub-within}
 use Rattle.arithmetic.proofs.Bounded.{Bounded}
 use Rattle.square_root.specs.Signs.{abs, negative}
+use Rattle.remainder.proofs.Values.{own-remainder}
 use Rattle.elementary.specs.declared.sine.SinCos.{SinCos}
 use Rattle.elementary.specs.Constants.{TAU, FRAC-2-PI, FRAC-PI-2, PI-2-REST, sineFirst, sineRest, cosineFirst, cosineRest}
 use Rattle.elementary.specs.Sine.{beyond, outside, unlessOutside, series, modulo4, quarterTurns, wholeFloat, reduced, sinCosReduced, sinCosFinite, sinCos}
@@ -26,7 +27,6 @@ use Rattle.elementary.specs.Values.{RoundOf}
 use Rattle.elementary.specs.Whole.{roundSize, roundℤ}
 use Rattle.elementary.specs.Whole.{round as nearest}
 use Rattle.elementary.proofs.Sizes.{12·0, most, sound, series-within}
-use Rattle.elementary.proofs.Turn.{own-remainder}
 use Rattle.elementary.proofs.Values.{round-value}
 
 -- ---- inside
@@ -152,7 +152,7 @@ so false t = absurd t
 within-turn : {x : Float} → T (fits binary64 x) → Within x quarterOver → x ≡ rem binary64 x TAU
 unfolding abs lt TAU ofBits
 within-turn h (within {s} {m} {n} {e} {d} l) =
-    own-remainder (fin s m e) h (so (lt (fin false m e) TAU) (within-lt {x = fin false m e} {B = quarterOver} TAU (within l) tt .1))
+    own-remainder (fin s m e) TAU h (so (lt (fin false m e) TAU) (within-lt {x = fin false m e} {B = quarterOver} TAU (within l) tt .1))
 
 one-turn : {q : Float} → Within q (fin false 5 (negsuc 1)) → Within (wholeFloat ieee (roundℤ q)) 1·0
 unfolding roundℤ round

@@ -1,4 +1,4 @@
--- The reduction of an angle: what lies within a turn is its own remainder by TAU, the remainder is below TAU, so the count of quarter turns is at most 17/4,
+-- The reduction of an angle: the remainder by TAU is below TAU, so the count of quarter turns is at most 17/4,
 -- and the nearest whole number n to it, as a float and mod 4, from its size and a comparison with 0. Assumes nothing.
 use mathlib.Core.Path.{_≡_, refl, sym, ap, _∙_}
 use Prim.Native.Nat.{ℕ, zero, suc, _+_, _-_, _*_, _%_, _^_, _≤_, _<_}
@@ -18,7 +18,7 @@ use Rattle.answer.specs.Number.{isFinite}
 use Rattle.arithmetic.specs.Arith.{ieee}
 use Rattle.arithmetic.proofs.Compared.{lt-values}
 use Rattle.arithmetic.proofs.Product.{mul-most, zero-plus}
-use Rattle.arithmetic.proofs.Remainder.{rem-below, rem-exact}
+use Rattle.arithmetic.proofs.Remainder.{rem-exact}
 use Rattle.arithmetic.proofs.Rounding.{AtMost, neg-round}
 use Rattle.arithmetic.proofs.Units.{of-value, rise}
 use Rattle.elementary.specs.Constants.{TAU, FRAC-2-PI}
@@ -39,13 +39,6 @@ turn = tauDigits * 2 ^ 1027
 tau-fits : T (fits binary64 (fin false tauDigits (negsuc 46)))
 unfolding fits
 tau-fits = tt
-
-pub own-remainder : (x : Float) → T (fits binary64 x) → lt (abs x) TAU ≡ true → x ≡ rem binary64 x TAU
-unfolding lt abs TAU ofBits
-own-remainder nan h l = absurd (false≢true l)
-own-remainder (inf s) h l = absurd (false≢true l)
-own-remainder (fin s m e) h l =
-    sym (rem-below binary64 s m e false tauDigits (negsuc 46) h (ltb-true (m * up e * 2 ^ 47) (tauDigits * 1 * down e) l))
 
 pub remainder-below : (x : Float) → T (fits binary64 x) → isFinite x ≡ true → AtMost binary64 (rem binary64 x TAU) (negative x) turn
 unfolding isFinite negative TAU ofBits

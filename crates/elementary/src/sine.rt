@@ -60,14 +60,14 @@ pub struct SinCos {
     pub cos: f64,
 }
 
-// x mod one turn. A value within a turn is its own, which spares the C library's fmod.
+// x mod one turn. A value within a turn is its own, which spares the call.
 fn within_turn(x: f64) -> f64
     ensures { λ r. ⌜ r ≡ rem binary64 x TAU ⌝ }
 {
     if square_root::signs::abs(x) < TAU {
         x
     } else {
-        x % TAU
+        remainder::remainder(x, TAU)
     }
 }
 

@@ -2,6 +2,7 @@
 pub mod SignBit
 pub mod Mask
 pub mod Lead
+pub mod Digits
 pub mod Round
 pub mod Carried
 pub mod RootBits

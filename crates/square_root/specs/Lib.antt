@@ -1,2 +1,3 @@
--- Document 01, "Elementary steps": abs, max(0.0) and signs. Definitions only; the square root's is in crate arithmetic.
+-- Document 01, "Elementary steps": abs, max(0.0) and signs; and what a pattern says. Definitions only; the square root's is in crate arithmetic.
 pub mod Signs
+pub mod Parts

@@ -7,29 +7,7 @@ ghost use lib.Ieee.{binary64, ofBits};
 ghost use lib.Ieee.Exact.{HasValue};
 ghost use Rattle.arithmetic.specs.Sqrt.{nearestRoot, sqrt};
 
-// A value above zero as m * 2^h of the smallest ones, 2^-1074.
-struct Parts {
-    m: u64,
-    h: u64,
-}
-
-fn split(b: u64) -> Parts
-    requires { ⌜ (0 < b) × (b < 2047 * 2 ^ 52) ⌝ }
-    ensures { λ r. ⌜ (0 < r .m) × (r .m < 2 ^ 53) × (r .h ≤ 2045) × HasValue (ofBits binary64 b) false (r .m * 2 ^ r .h) (2 ^ 1074) ⌝ }
-{
-    let e = b >> 52;
-    let t = b % 0x10_0000_0000_0000;
-    // a subnormal has no leading digit, and the exponent of the smallest normal ones
-    if e == 0 {
-        return Parts { m: t, h: 0 };
-    }
-    Parts {
-        m: 0x10_0000_0000_0000 + t,
-        h: e - 1,
-    }
-}
-
-// The same value as a * 2^g, in units of 2^-1126, where a has the full width of 53 digits.
+// The value m * 2^h of the smallest ones, 2^-1074, as a * 2^g in units of 2^-1126, where a has the full width of 53 digits.
 struct Wide {
     a: u64,
     g: u64,
@@ -177,7 +155,7 @@ pub fn sqrt(x: f64) -> f64
     if b >= 0x7ff0_0000_0000_0000 {
         return x;
     }
-    let p = split(b);
+    let p = crate::parts::split(b);
     let n = widened(p.m, p.h);
     // an odd exponent gives the number one digit more, so that half of what is left is whole
     let q = nearest_root(n.a << (n.g % 2), b);

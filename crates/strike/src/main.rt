@@ -9,23 +9,36 @@ use strike_records::session::feed_buffer;
 use strike_records::session::finish;
 use strike_records::session::is_over;
 ghost use mathlib.Core.Path.{_≡_};
-ghost use Prim.Native.Nat.{_≤_};
-ghost use lib.ListN.{length};
+ghost use mathlib.Core.Bool.{true, false};
+ghost use Prim.Native.Nat.{_+_, _≤_, _<_};
+ghost use lib.ListN.{length, take};
+ghost use Rattle.strike_records.specs.Pieces.{over};
+ghost use Rattle.strike.specs.Steps.{Begins, Roomy, stateOf, Stepped, Read, Ended};
 
 // Between two reads: where the session stands, how many bytes of the buffer were not taken, and
 // whether nothing more is read.
 struct Standing {
     stage: Stage,
     kept: usize,
-    is_ended: bool,
+    ended: bool,
 }
 
-// How many bytes a read brought; none at the input's end.
+// How many bytes a read brought; none at the input's end, since there is room for some.
 fn read(space: &mut [u8]) -> usize
+    requires { ⌜ 0 < length (now space) ⌝ }
     ensures { λ r. ⌜ r ≤ length (now (space .exit)) ⌝ }
 {
     let got = libc::read(STDIN_FILENO, space);
     io::count(got, space)
+}
+
+// The same behind the bytes that are kept, which stay.
+fn read_behind(buffer: &mut [u8], kept: usize) -> usize
+    requires { ⌜ kept < length (now buffer) ⌝ }
+    ensures { λ r. ⌜ kept + r ≤ length (now (buffer .exit)) ⌝ }
+    ensures { λ _. ⌜ take kept (now (buffer .exit)) ≡ take kept (now (buffer .entry)) ⌝ }
+{
+    read(&mut buffer[kept..])
 }
 
 // One read, and the lines of what has arrived then.
@@ -37,7 +50,8 @@ fn step(
     buffer: &mut [u8],
     out: &mut [u8],
 ) -> Standing
-    requires { ⌜ at .kept ≤ length (now buffer) ⌝ }
+    requires { ⌜ (over (at .stage) ≡ false → at .kept < length (now buffer)) × (at .kept ≤ length (now buffer)) ⌝ }
+    ensures { λ r. ⌜ Stepped (length (now (buffer .entry))) (stateOf (at .stage) (at .kept) (now (frame .entry)) (now (face .entry)) (now (sphere .entry)) (now (buffer .entry))) (stateOf (r .stage) (r .kept) (now (frame .entry)) (now (face .exit)) (now (sphere .exit)) (now (buffer .exit))) (now (out .entry)) (now (out .exit)) (r .ended) ⌝ }
     ensures { λ r. ⌜ r .kept ≤ length (now (buffer .exit)) ⌝ }
 {
     let stage = at.stage;
@@ -46,15 +60,15 @@ fn step(
         return Standing {
             stage,
             kept,
-            is_ended: true,
+            ended: true,
         };
     }
-    let n = read(&mut buffer[kept..]);
+    let n = read_behind(buffer, kept);
     if n == 0 {
         return Standing {
             stage,
             kept,
-            is_ended: true,
+            ended: true,
         };
     }
     let turn = feed_buffer(stage, frame, face, sphere, buffer, kept + n, out);
@@ -62,19 +76,47 @@ fn step(
         return Standing {
             stage: Stage::Stopped,
             kept: 0,
-            is_ended: true,
+            ended: true,
         };
     }
     let next = turn.stage;
     Standing {
         stage: next,
         kept: turn.kept,
-        is_ended: false,
+        ended: false,
     }
 }
 
-// A loop has to end, and nothing says that the input does. The most records and the header have
-// 42,949,672,955 bytes, of which each read brings one at least, so the count never ends a session.
+// A loop has to end, and nothing says that the input does, so the reads are counted. The most
+// records and the header have 42,949,672,955 bytes, of which each read brings one at least. So the
+// count never ends a session: all reads end by a step that ends the program.
+fn read_all(
+    stage: Stage,
+    frame: &[f64],
+    face: &mut [f64],
+    sphere: &mut [f64],
+    buffer: &mut [u8],
+    out: &mut [u8],
+) -> Standing
+    requires { ⌜ Begins stage × Roomy (now buffer) (now out) ⌝ }
+    ensures { λ r. ⌜ r .ended ≡ true ⌝ }
+    ensures { λ r. ⌜ Read (length (now (out .entry))) (stateOf stage 0 (now (frame .entry)) (now (face .entry)) (now (sphere .entry)) (now (buffer .entry))) (stateOf (r .stage) (r .kept) (now (frame .entry)) (now (face .exit)) (now (sphere .exit)) (now (buffer .exit))) ⌝ }
+    ensures { λ r. ⌜ r .kept ≤ length (now (buffer .exit)) ⌝ }
+{
+    let mut at = Standing {
+        stage,
+        kept: 0,
+        ended: false,
+    };
+    let mut reads: u64 = 42_949_672_960;
+    while reads > 0 && !at.ended {
+        at = step(at, frame, face, sphere, buffer, out);
+        reads -= 1;
+    }
+    at
+}
+
+// All reads, and behind them the last line, if there is one: how many bytes it has.
 fn answer_all(
     stage: Stage,
     frame: &[f64],
@@ -82,27 +124,24 @@ fn answer_all(
     sphere: &mut [f64],
     buffer: &mut [u8],
     out: &mut [u8],
-) {
-    let mut at = Standing {
-        stage,
-        kept: 0,
-        is_ended: false,
-    };
-    let mut reads: u64 = 42_949_672_960;
-    while reads > 0 && !at.is_ended {
-        at = step(at, frame, face, sphere, buffer, out);
-        reads -= 1;
-    }
+) -> usize
+    requires { ⌜ Begins stage × Roomy (now buffer) (now out) ⌝ }
+    ensures { λ r. ⌜ Ended (length (now (out .entry))) (stateOf stage 0 (now (frame .entry)) (now (face .entry)) (now (sphere .entry)) (now (buffer .entry))) r (now (out .exit)) ⌝ }
+    ensures { λ r. ⌜ r ≤ length (now (out .exit)) ⌝ }
+{
+    let at = read_all(stage, frame, face, sphere, buffer, out);
     let last = at.stage;
-    let written = finish(last, at.kept, out);
-    io::write_all(STDOUT_FILENO, &out[..written]);
+    finish(last, at.kept, out)
 }
 
-fn run(frame: &mut [f64], face: &mut [f64], sphere: &mut [f64], buffer: &mut [u8], out: &mut [u8]) {
+fn run(frame: &mut [f64], face: &mut [f64], sphere: &mut [f64], buffer: &mut [u8], out: &mut [u8])
+    requires { ⌜ Roomy (now buffer) (now out) ⌝ }
+{
     let begun = begin(frame, face, sphere, out);
     let stage = begun.stage;
     if io::write_all(STDOUT_FILENO, &out[..begun.written]) {
-        answer_all(stage, frame, face, sphere, buffer, out);
+        let written = answer_all(stage, frame, face, sphere, buffer, out);
+        io::write_all(STDOUT_FILENO, &out[..written]);
     }
 }
 

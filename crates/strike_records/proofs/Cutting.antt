@@ -116,7 +116,7 @@ module _ (A : Arith) (table : List Float) where
   -- ---- the input's end
 
   -- fewer bytes are left than are taken together
-  abbrev Settled : Stage → ℕ → Type 0
+  abbrev pub Settled : Stage → ℕ → Type 0
   Settled Header kept = kept < 5
   Settled (Records zero) kept = Unit {0}
   Settled (Records (suc n)) kept = kept < 10
@@ -131,7 +131,7 @@ module _ (A : Arith) (table : List Float) where
   end-law Stopped s kept h = refl
 
   -- the same of what is left of the bytes that were fed
-  abbrev After : List ℕ → Fed → Type 0
+  abbrev pub After : List ℕ → Fed → Type 0
   After bytes f = Settled (f .stage) (length (drop (f .taken) bytes))
 
   settled-records : (n kept : ℕ) → (0 < n → kept < 10) → Settled (Records n) kept
@@ -172,7 +172,7 @@ module _ (A : Arith) (table : List Float) where
       by false e false true f = absurd (omega (arith, ltb-true room LINE f))
       by false e false false f = tt
 
-  settled-next : (stage : Stage) (s : Set) (kept : List ℕ) (p : Piece) → Settled stage (length kept) → (length (p .bytes) / 10 + 1) * LINE ≤ p .room
+  pub settled-next : (stage : Stage) (s : Set) (kept : List ℕ) (p : Piece) → Settled stage (length kept) → (length (p .bytes) / 10 + 1) * LINE ≤ p .room
       → After (kept ++ p .bytes) (fed A table stage s (kept ++ p .bytes) (p .room))
   unfolding fed recordsFed
   settled-next Header s kept p h r = settled-after Header s (kept ++ p .bytes) (p .room) (simp length-append (omega arith)) (omega arith)

@@ -4,6 +4,7 @@ use coordinates::polar::Polar;
 use elementary::sine::cos_inside;
 use elementary::whole::floor;
 use elementary::whole::round;
+use remainder::remainder;
 use square_root::signs::abs;
 use square_root::signs::negative;
 ghost use mathlib.Core.Path.{_≡_};
@@ -43,7 +44,8 @@ fn whole_modulo(x: f64) -> usize
     if !answer::is_finite(x) {
         return 0;
     }
-    modulo(negative(x), std::num::truncating_f64_to_u64(a % 10.0))
+    let left = remainder(a, 10.0);
+    modulo(negative(x), std::num::truncating_f64_to_u64(left))
 }
 
 // The index of the triangle, 0 to 9.

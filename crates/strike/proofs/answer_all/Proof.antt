@@ -1,66 +1,54 @@
--- `strike::answer_all` is safe and ends. The loop's invariant: the bytes that are kept are in the buffer. The measure is the number of reads that are left. Assumes nothing.
-use mathlib.Core.Path.{_≡_, refl, sym, _∙_}
-use Prim.Native.Nat.{_≤_, zero-le}
+-- `strike::answer_all` meets its contract. Assumes nothing.
+use borrow.Author.Needs.{needs}
+use Prim.Native.Nat.{_≤_}
 use native.Mathlib.Omega.{arith}
 use lib.ListN.{length}
 use lib.Seq.{length-take-le}
+use Rattle.strike_records.specs.Line.{LINE}
+use Rattle.strike.specs.Steps.{stateOf}
+use Rattle.strike.proofs.Arrived.{ended}
 use Rattle.strike.proofs.answer_all.Statement.{statement}
 use Rattle.strike.proofs.answer_all.Tie as tie
 
-abbrev Inv-loop : tie.InvT-loop
-Inv-loop frame face₀ sphere₀ buffer₀ out₀ at₀ reads₀ face sphere buffer out at reads =
-    (at .kept ≤ length buffer) × (length face ≡ length face₀) × (length sphere ≡ length sphere₀) × (length buffer ≡ length buffer₀) × (length out ≡ length out₀)
+-- stations
+abbrev read : tie.After-finish → tie.After-read-all
+read c =
+    let o = c .before .before .before in
+    let b = o .before .before .before in
+    let f = b .before .before .before in
+    f .before
 
-abbrev μ-loop : tie.MeasureT-loop
-μ-loop frame face₀ sphere₀ buffer₀ out₀ at₀ reads₀ face sphere buffer out at reads = reads
+abbrev start : tie.After-read-all → tie.Start
+start c =
+    let a = c .before .before .before in
+    let k = a .before .before .before in
+    let j = k .before .before .before in
+    j .before
 
-loop-holds : tie.Need-loop-holds Inv-loop μ-loop
-loop-holds c = (zero-le, refl, refl, refl, refl)
-
-step-requires : tie.Need-step-requires Inv-loop μ-loop
-step-requires c κs = c .before .before .before .before .before .before .before .loop .inv .0
-
-loop-again : tie.Need-loop-again Inv-loop μ-loop
-loop-again c =
-    let i = c .before .before .before .before .before .before .before .before .before .before .before .before .before .before .before .before .loop .inv in
-    let k = c .before .before .before .before .before .before .before .before .step .kept in
-    (c .before .before .before .before .before .before .before .before .step .ensures, k .1 .1 .0 ∙ i .1, k .1 .1 .1 .0 ∙ i .2, k .1 .1 .1 .1 .0 ∙ i .3, k .1 .1 .1 .1 .1 .0 ∙ i .4)
-
-slice-reshare-prefix-write-all : tie.Need-slice-reshare-prefix-write-all Inv-loop μ-loop
-slice-reshare-prefix-write-all c = omega (arith, c .before .before .finish .ensures .1 .1, c .before .before .finish .kept .1 .1 .0)
-
-slice-aggregate-write-all : tie.Need-slice-aggregate-write-all Inv-loop μ-loop
-slice-aggregate-write-all c = sym (length-take-le _ _ (omega (arith, c .before .before .before .finish .ensures .1 .1, c .before .before .before .finish .kept .1 .1 .0)))
-
-face-length : tie.Need-same-length Inv-loop μ-loop
-face-length c = c .before .before .before .before .before .before .before .loop .inv .1
-
-sphere-length : tie.Need-same-length-2 Inv-loop μ-loop
-sphere-length c = c .before .before .before .before .before .before .before .loop .inv .2
-
-buffer-length : tie.Need-same-length-3 Inv-loop μ-loop
-buffer-length c = c .before .before .before .before .before .before .before .loop .inv .3
-
-out-length : tie.Need-same-length-4 Inv-loop μ-loop
-out-length c = c .before .before .before .before .finish .kept .1 .1 .0 ∙ c .before .before .before .before .before .before .before .loop .inv .4
+returns : tie.Need-returns
+returns c =
+    let f = c .before .before in
+    let q = read f .read-all in
+    let s = start (read f) in
+    let a = s .args in
+    let first = stateOf (a .stage) 0 (a .frame .now) (a .face .now) (a .sphere .now) (a .buffer .now) in
+    let buffer = q .last .1 .1 .1 .1 .0 in
+    let last = stateOf (q .result .stage) (q .result .kept) (a .frame .now) (q .last .1 .1 .0) (q .last .1 .1 .1 .0) buffer in
+    let before = q .last .1 .1 .1 .1 .1 .0 in
+    let roomy : LINE ≤ length before = omega (arith, s .pre .1 .1, q .kept .1 .1 .1 .1 .1 .0) in (
+      ended (length (a .out .now)) (f .finish .result) (q .result .kept) first last before (f .finish .last .1 .1 .0) roomy
+          (length-take-le (q .result .kept) buffer (q .ensures .1 .1)) (q .ensures .1 .0) (f .finish .ensures .0) (f .finish .ensures .1 .0),
+      omega (arith, f .finish .ensures .1 .1, f .finish .kept .1 .1 .0),
+    )
 
 pub answer-all-spec : {M : Type 1} → statement M
 answer-all-spec =
     tie.close
     (tie.spec
-    Inv-loop
-    μ-loop
-    loop-holds
-    step-requires
-    (λ c. omega arith)
-    (λ c. omega arith)
-    loop-again
-    (λ c κs. tt)
-    slice-reshare-prefix-write-all
-    slice-aggregate-write-all
-    (λ c κs. tt)
-    face-length
-    sphere-length
-    buffer-length
-    out-length
-    (λ c. tt))
+    (λ c κs. search needs)
+    (λ c κs. search needs)
+    (λ c. search needs)
+    (λ c. search needs)
+    (λ c. search needs)
+    (λ c. search needs)
+    returns)

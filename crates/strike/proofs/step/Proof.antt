@@ -1,25 +1,117 @@
--- `strike::step` is safe, and the bytes that it keeps are in the buffer. Assumes nothing.
-use mathlib.Core.Path.{sym}
+-- `strike::step` meets its contract. Assumes nothing.
+use mathlib.Core.Path.{_≡_, refl, sym, ap, _∙_}
+use mathlib.Core.Bool.{false}
+use mathlib.Core.List.{List}
+use Prim.Native.Nat.{ℕ, _≤_, _<_, zero-le}
 use borrow.Author.Needs.{needs}
+use native.Mathlib.Omega.{arith}
+use lib.ListN.{length, take}
 use lib.Seq.{length-take-le}
+use Rattle.strike_records.specs.Pieces.{over}
+use Rattle.strike.specs.Steps.{stateOf, rests, goes-on, stops}
+use Rattle.strike.proofs.Arrived.{arrived, arrived-length, next-is, lines-are}
 use Rattle.strike.proofs.step.Statement.{statement}
 use Rattle.strike.proofs.step.Tie as tie
 
 slice-aggregate-write-all : tie.Need-slice-aggregate-write-all
 slice-aggregate-write-all c = sym (length-take-le _ _ (search needs))
 
+-- stations
+abbrev start : tie.After-is-over → tie.Start
+start c = let k = c .before .before .before in k .before .before .before
+
+abbrev read : tie.After-slice-known5 → tie.After-read-behind
+read c = c .before .before
+
+abbrev from : tie.After-read-behind → tie.Else1
+from c = c .before .before
+
+abbrev some : tie.After-feed-buffer → tie.Else2
+some c = let a = c .before .before .before in a .before .before
+
+abbrev fed : tie.After-write-all → tie.After-feed-buffer
+fed c =
+    let o = c .before .before .before in
+    let s = o .before .before .before in
+    let f = s .before .before .before in
+    f .before
+
+-- the session is not over where something is read
+goes : (c : tie.Else1) → over (start (c .before) .args .at .stage) ≡ false
+goes c = sym (c .before .is-over .ensures) ∙ c .if1 .left
+
+read-behind-requires : tie.Need-read-behind-requires
+read-behind-requires c κs = start (c .before .before) .pre .0 (goes (c .before))
+
+returns : tie.Need-returns
+returns c = (rests refl refl, start (c .before) .pre .1)
+
+returns-2 : tie.Need-returns-2
+returns-2 c =
+    let r = read (c .before) .read-behind in
+    let a = start (from (read (c .before)) .before) .args in
+    (rests (rw (r .ensures .1)) refl, omega (arith, r .ensures .0))
+
+-- how many bytes arrived, and that some did
+module _ (c : tie.After-feed-buffer) where
+  abbrev r : tie.After-read-behind
+  r = read (some c .before)
+
+  abbrev s : tie.Start
+  s = start (from r .before)
+
+  abbrev piece : List ℕ
+  piece = arrived (s .args .at .kept) (r .read-behind .result) (r .read-behind .last .0)
+
+  filled : 0 < length piece
+  filled = rw (arrived-length (s .args .at .kept) (r .read-behind .result) (r .read-behind .last .0) (r .read-behind .ensures .0)) (omega (arith, some c .if2 .left))
+
+  within : length piece ≤ length (s .args .buffer .now)
+  within = omega (
+    arith,
+    arrived-length (s .args .at .kept) (r .read-behind .result) (r .read-behind .last .0) (r .read-behind .ensures .0),
+    r .read-behind .ensures .0,
+    r .read-behind .kept .0,
+  )
+
+  buffer-length : c .feed-buffer .result .kept ≤ length (c .feed-buffer .last .1 .1 .1 .1 .0)
+  buffer-length = omega (arith, c .feed-buffer .ensures .1 .0, c .feed-buffer .kept .1 .1 .1 .1 .0)
+
+returns-3 : tie.Need-returns-3
+returns-3 c =
+    let f = fed (c .before) in
+    let t = f .feed-buffer in
+    let a = s f .args in
+    let b = r f .read-behind in (
+      stops (piece f) (filled f) (within f) (goes (from (r f))) refl
+          (lines-are (a .frame .now) (a .face .now) (a .sphere .now) (t .last .1 .1 .0) (t .last .1 .1 .1 .0) (a .at .stage) (a .at .kept) (b .result)
+          (a .buffer .now) (b .last .0) (t .last .1 .1 .1 .1 .0) (a .out .now) (t .last .1 .1 .1 .1 .1 .1 .0) (t .result) (b .ensures .1) (t .ensures .0)),
+      zero-le,
+    )
+
+returns-4 : tie.Need-returns-4
+returns-4 c =
+    let f = fed (c .before) in
+    let t = f .feed-buffer in
+    let a = s f .args in
+    let b = r f .read-behind in (
+      goes-on (piece f) (filled f) (within f) (goes (from (r f)))
+          (next-is (a .frame .now) (a .face .now) (a .sphere .now) (t .last .1 .1 .0) (t .last .1 .1 .1 .0) (a .at .stage) (a .at .kept) (b .result)
+          (a .buffer .now) (b .last .0) (t .last .1 .1 .1 .1 .0) (a .out .now) (t .last .1 .1 .1 .1 .1 .1 .0) (t .result) (b .ensures .1) (t .ensures .0))
+          (lines-are (a .frame .now) (a .face .now) (a .sphere .now) (t .last .1 .1 .0) (t .last .1 .1 .1 .0) (a .at .stage) (a .at .kept) (b .result)
+          (a .buffer .now) (b .last .0) (t .last .1 .1 .1 .1 .0) (a .out .now) (t .last .1 .1 .1 .1 .1 .1 .0) (t .result) (b .ensures .1) (t .ensures .0)),
+      buffer-length f,
+    )
+
 pub step-spec : {M : Type 1} → statement M
 step-spec =
     tie.close
     (tie.spec
     (λ c κs. search needs)
+    returns
+    read-behind-requires
     (λ c. search needs)
-    (λ c. search needs)
-    (λ c. search needs)
-    (λ c. search needs)
-    (λ c κs. search needs)
-    (λ c. search needs)
-    (λ c. search needs)
+    returns-2
     (λ c. search needs)
     (λ c κs. search needs)
     (λ c. search needs)
@@ -29,9 +121,9 @@ step-spec =
     (λ c. search needs)
     (λ c. search needs)
     (λ c. search needs)
+    returns-3
     (λ c. search needs)
     (λ c. search needs)
     (λ c. search needs)
     (λ c. search needs)
-    (λ c. search needs)
-    (λ c. search needs))
+    returns-4)

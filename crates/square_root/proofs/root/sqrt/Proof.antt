@@ -11,6 +11,7 @@ use Rattle.arithmetic.specs.Sqrt.{sqrt}
 use Rattle.arithmetic.proofs.Width.{scaled-half}
 use Rattle.answer.proofs.NotANumber.{is-nan, is-number}
 use Rattle.square_root.proofs.SignBit.{zero-by-zero, sign-bit}
+use Rattle.square_root.proofs.Digits.{Split, split-is}
 use Rattle.square_root.proofs.RootBits.{at-top, below-zero, made-lt, made-number, made-root}
 use Rattle.square_root.proofs.root.sqrt.Statement.{statement}
 use Rattle.square_root.proofs.root.sqrt.Tie as tie
@@ -52,6 +53,13 @@ returns-5 c =
     let b = toBits binary64 (s .args .x) in
     own s b refl (at-top b (c .if5 .taken) (c .before .before .if2 .left))
 
+-- the parts of the pattern, which is neither 0 nor at the top
+parts : (c : tie.After-split) → Split (toBits binary64 (c .before .before .before .before .before .args .x)) (c .split .result .m) (c .split .result .h)
+parts c = let b = c .before .before .before .before .before .args .x in split-is (toBits binary64 b) (c .split .result .m) (c .split .result .h) (c .split .ensures) (omega arith) (omega arith)
+
+widened-requires : tie.Need-widened-requires
+widened-requires c κs = let p = parts c in (p .some, p .few, p .most)
+
 nearest-root-requires : tie.Need-nearest-root-requires
 nearest-root-requires c κs =
     let w = c .before .before .widened in
@@ -77,7 +85,7 @@ returns-6 c =
     let s = c .before .before .before .before .before .before .before .before .before .before in
     let b = toBits binary64 (s .args .x) in
     made-root (w .result .a) (w .result .g) (q .result) (w .ensures .0) (w .ensures .1) (w .ensures .2) (q .ensures)
-    (ofBits binary64 b) (p .result .m) (p .result .h) (ofBits-fits binary64 b) (p .ensures .3) (w .ensures .3)
+    (ofBits binary64 b) (p .result .m) (p .result .h) (ofBits-fits binary64 b) (parts (c .before .before .before .before .before) .is) (w .ensures .3)
     ∙ ap sqrt (back s)
 
 pub sqrt-spec : {M : Type 1} → statement M
@@ -91,7 +99,7 @@ sqrt-spec =
     returns-4
     returns-5
     (λ c κs. search needs)
-    (λ c κs. search needs)
+    widened-requires
     (λ c. search needs)
     nearest-root-requires
     (λ c. search needs)

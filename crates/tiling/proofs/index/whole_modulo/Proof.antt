@@ -5,7 +5,7 @@ use Prim.Native.Nat.{_%_}
 use native.Mathlib.Nat.{mod-mod}
 use borrow.Author.Tests.{not-true, not-false}
 use lib.Dec.{T}
-use lib.Ieee.{binary64, rem, ofBits}
+use lib.Ieee.{binary64, rem, ofBits, toUnsigned}
 use Rattle.square_root.proofs.SignBit.{abs-fits}
 use Rattle.elementary.proofs.Fraction.{Below, below, cut-below}
 use Rattle.tiling.proofs.Modulo.{modulo-is, not-finite, LastDigit, last-digit}
@@ -37,13 +37,17 @@ digit c =
     (a .ensures)
 
 truncating-f64-to-u64-requires-2 : tie.Need-truncating-f64-to-u64-requires-2
-truncating-f64-to-u64-requires-2 c κs = digit (c .before) .asks
+truncating-f64-to-u64-requires-2 c κs = rw (c .before .remainder .ensures) (digit (c .before .before) .asks)
 
 returns-3 : tie.Need-returns-3
 returns-3 c =
+    let t = c .before .truncating-f64-to-u642 in
+    let n = c .before .before .negative2 in
+    let left = c .before .before .before .remainder in
+    let e = c .before .before .before .before in
     c .modulo2 .ensures
-    ∙ modulo-is (c .before .before .before .before .before .before .before .args .x) (c .before .before .negative2 .result) (c .before .truncating-f64-to-u642 .result) (c .before .before .negative2 .ensures)
-    (ap (λ k. k % 10) (c .before .truncating-f64-to-u642 .ensures ∙ digit (c .before .before .before) .is) ∙ mod-mod _ 10)
+    ∙ modulo-is (e .before .before .before .before .args .x) (n .result) (t .result) (n .ensures)
+    (ap (λ k. k % 10) (t .ensures ∙ ap (toUnsigned 64) (left .ensures) ∙ digit e .is) ∙ mod-mod _ 10)
 
 pub whole-modulo-spec : {M : Type 1} → statement M
 whole-modulo-spec =
@@ -56,6 +60,7 @@ whole-modulo-spec =
     returns
     (λ c κs. tt)
     returns-2
+    (λ c κs. tt)
     (λ c κs. tt)
     truncating-f64-to-u64-requires-2
     (λ c κs. tt)

@@ -1,0 +1,69 @@
+-- The strike program between two reads, and what its reads come to, for whatever bytes they brought. Definitions only.
+use Prim.Native.Nat.{ℕ, _+_, _*_, _/_, _≤_, _<_}
+use mathlib.Core.Path.{_≡_}
+use mathlib.Core.Bool.{Bool, true, false}
+use mathlib.Core.List.{List, [], _∷_, _++_}
+use lib.Ieee.{Float}
+use lib.ListN.{length, take, drop}
+use Rattle.arithmetic.specs.Arith.{ieee}
+use Rattle.origin.specs.Origins.{ORIGINS}
+use Rattle.stores.specs.Slots.{put}
+use Rattle.strike_records.specs.Line.{LINE}
+use Rattle.strike_records.specs.Session.{Set, setOf}
+use Rattle.strike_records.specs.Pieces.{Fed, fed, endLine, over}
+use Rattle.strike_records.specs.declared.session.Stage.{Stage}
+use Rattle.strike_records.specs.declared.session.Stage.the-variants.{Header, Records, Stopped}
+
+-- where a session stands: its stage, its set, and the bytes that were not taken
+pub record State : Type 0 where
+  pub stage : Stage
+  pub set : Set
+  pub kept : List ℕ
+
+-- the same from what the program holds: the bytes that were not taken are the buffer's first
+abbrev pub stateOf : Stage → ℕ → List Float → List Float → List Float → List ℕ → State
+stateOf stage kept frame face sphere buffer = record { stage = stage; set = setOf frame face sphere; kept = take kept buffer }
+
+-- where a session begins, as open answered or refused
+abbrev pub Begins : Stage → Type 0
+Begins Header = Unit {0}
+Begins (Records n) = ⊥
+Begins Stopped = Unit {0}
+
+-- what feeding gives for the kept bytes and those that arrived behind them, with that much room for lines
+abbrev pub given : ℕ → State → List ℕ → Fed
+given room s arrived = fed ieee ORIGINS (s .stage) (s .set) (s .kept ++ arrived) room
+
+-- where the session stands then
+abbrev pub next : ℕ → State → List ℕ → State
+next room s arrived =
+    let f = given room s arrived in
+    record { stage = f .stage; set = f .set; kept = drop (f .taken) (s .kept ++ arrived) }
+
+-- a buffer that holds some record and more, and room for a line for each record that it holds and for one more
+abbrev pub Roomy : List ℕ → List ℕ → Type 0
+Roomy buffer out = (10 ≤ length buffer) × ((length buffer / 10 + 1) * LINE ≤ length out)
+
+-- One step from s to t, and whether the program ends by it. The buffer holds so many bytes; `before` and `out` are the buffer for lines.
+pub data Stepped (space : ℕ) (s t : State) (before out : List ℕ) : Bool → Type 0 where
+  -- the session was over, or a read brought nothing: all is as it was
+  rests : t ≡ s → out ≡ before → Stepped space s t before out true
+  -- some bytes arrived, were fed, and their lines were written
+  goes-on : (arrived : List ℕ) → 0 < length arrived → length arrived ≤ space → over (s .stage) ≡ false → t ≡ next (length before) s arrived
+      → out ≡ put before 0 (given (length before) s arrived .lines) → Stepped space s t before out false
+  -- the same, but the write failed: there is no further line
+  stops : (arrived : List ℕ) → 0 < length arrived → length arrived ≤ space → over (s .stage) ≡ false → t .stage ≡ Stopped
+      → out ≡ put before 0 (given (length before) s arrived .lines) → Stepped space s t before out true
+
+-- All steps, from s to t: pieces arrived one after the other, some bytes each, and none after the session was over; or a write failed.
+pub data Read (room : ℕ) (s : State) : State → Type 0 where
+  none : Read room s s
+  more : {t : State} → Read room s t → (arrived : List ℕ) → 0 < length arrived → over (t .stage) ≡ false → Read room s (next room t arrived)
+  failed : {t : State} → t .stage ≡ Stopped → Read room s t
+
+-- The session's end: the line that the input's end gives where the session stands after all reads, at the start of the buffer for lines.
+pub record Ended (room : ℕ) (s : State) (written : ℕ) (out : List ℕ) : Type 0 where
+  pub last : State
+  pub read : Read room s last
+  pub written-is : written ≡ length (endLine (last .stage) (length (last .kept)))
+  pub line-is : take written out ≡ endLine (last .stage) (length (last .kept))
