@@ -3,8 +3,9 @@
  *
  * Link with libexports.a, which `rt staticlib exports` writes: -lexports.
  *
- * Every call returns A5_ANSWERED (0), or the number of its refusal; a5_box_new alone returns nothing, since it is never
- * refused. An answer goes to the memory that is lent for it (to, id, filled, part, box). A refused call leaves everything
+ * A call that can be refused returns A5_ANSWERED (0), or the number of its refusal. a5_box_new, a5_window_new and
+ * a5_window_counts are never refused and return nothing, a5_window_kept returns the number kept. An answer goes to the
+ * memory that is lent for it (to, id, filled, part, box, grants, window, counts, page). A refused call leaves everything
  * lent as it was, bit for bit. Any number may be passed: what is outside the limits is refused, and every call ends.
  *
  * A set is three buffers of double that the caller owns: the frame, the face store and the sphere store. It is lent to
@@ -15,7 +16,8 @@
  *
  * What the caller owes, since no function can check it:
  * - a pointer is not null, not even with length 0, and is aligned for what it points to;
- * - as many numbers stand there as the length says (two behind `to` and `part`, one behind `id` and `filled`);
+ * - as many numbers stand there as the length says (two behind `to` and `part`, one behind `id` and `filled`, twelve
+ *   behind `counts`);
  * - a box's `empty` is true or false, one of C's two bool values;
  * - no two things that are lent to one call overlap;
  * - a set is not used by two threads at once, unless both only show. Two sets are independent;
@@ -83,10 +85,12 @@ enum a5_status {
     A5_REFUSED_EARLIER_MINUTE = 17, /* the minute is earlier than the last accepted one */
     A5_REFUSED_WINDOW_FULL = 18,    /* 4,096 strikes remain after the drop */
     /* Inverse and unplace: a point too far off the face. */
-    A5_REFUSED_ANGLE_OUTSIDE = 19, /* no corner is returned and the angle from the area share is beyond +-64 */
+    A5_REFUSED_ANGLE_OUTSIDE = 19, /* no corner is returned, and the angle from the area share is finite and beyond +-64 */
     /* Fair turns. */
-    A5_REFUSED_WISH_COUNT = 24, /* not exactly 16 wishes */
-    A5_REFUSED_GRANT_COUNT = 25 /* not exactly 16 places for grants */
+    A5_REFUSED_WISH_COUNT = 24,  /* not exactly 16 wishes */
+    A5_REFUSED_GRANT_COUNT = 25, /* not exactly 16 places for grants */
+    /* A sheet's. */
+    A5_REFUSED_PAGE_LENGTH = 26 /* the lent page isn't 4,860 bytes */
 };
 
 /* Open: writes the frame and fills both stores with 0.0. Refusals: 1, 2, 3, 7. */
@@ -186,6 +190,14 @@ void a5_window_counts(const a5_window *window, uint32_t counts[A5_ORIGINS]);
 
 /* How many strikes are kept: the sum of the counts. Only reads. */
 uint32_t a5_window_kept(const a5_window *window);
+
+/* How many bytes a page has: 60 lines of 80 columns and a newline. No 0 byte ends it. */
+#define A5_PAGE 4860
+
+/* Sheet: prints a window's counts on a page of A5_PAGE bytes, as text: a title, a row for each origin, and the sum of the
+ * twelve counts, each right-aligned in columns 71 to 80. Only reads the window, whatever it holds; of a sum that has eleven
+ * digits, which no window has that only a5_window_add wrote, the last ten stand there. Refusal: 26. */
+uint8_t a5_sheet(const a5_window *window, uint8_t *page, size_t n);
 
 #ifdef __cplusplus
 }

@@ -15,7 +15,7 @@ use crate::{Face, LonLat, Place, Refusal, Spherical, Store};
 pub(crate) fn given<T>(status: u8, answer: T) -> Result<T, Refusal> {
     match status {
         0 => Ok(answer),
-        n => Err(Refusal::from_number(n).expect("a number of document 01's table")),
+        n => Err(Refusal::from_number(n).expect("a number of the table")),
     }
 }
 

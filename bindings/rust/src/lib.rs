@@ -27,6 +27,8 @@ pub use window::Window;
 
 /// How many channels take part in a turn.
 pub const CHANNELS: usize = 16;
+/// How many bytes a [sheet](Window::sheet) has: 60 lines of 80 columns and a newline.
+pub const PAGE: usize = 4860;
 /// How many numbers the frame has: 62 rows of 3.
 pub const FRAME: usize = 186;
 /// How many numbers the face store has: 30 slots of 7.

@@ -72,6 +72,7 @@ extern "C" {
     pub fn a5_window_add(window: *mut Window, minute: u32, origin: u8) -> u8;
     pub fn a5_window_counts(window: *const Window, counts: *mut [u32; 12]);
     pub fn a5_window_kept(window: *const Window) -> u32;
+    pub fn a5_sheet(window: *const Window, page: *mut u8, n: usize) -> u8;
 }
 
 // a5_box.

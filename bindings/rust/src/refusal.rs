@@ -41,11 +41,13 @@ pub enum Refusal {
     WishCount = 24,
     /// Fair turns: not exactly 16 places for grants.
     GrantCount = 25,
+    /// A sheet's: the lent page isn't 4,860 bytes.
+    PageLength = 26,
 }
 
 impl Refusal {
     /// Every refusal, in the table's order.
-    pub const ALL: [Refusal; 18] = [
+    pub const ALL: [Refusal; 19] = [
         Refusal::FrameLength,
         Refusal::FaceStoreLength,
         Refusal::SphereStoreLength,
@@ -64,6 +66,7 @@ impl Refusal {
         Refusal::AngleOutside,
         Refusal::WishCount,
         Refusal::GrantCount,
+        Refusal::PageLength,
     ];
 
     /// The number in the table.

@@ -1,7 +1,9 @@
 // A window of strikes that owns its memory.
 
+use crate::calls::given;
 use crate::raw;
 use crate::Refusal;
+use crate::PAGE;
 use std::fmt;
 use std::mem::{align_of, size_of, MaybeUninit};
 
@@ -40,10 +42,7 @@ impl Window {
     /// full; then nothing is dropped.
     #[inline]
     pub fn add(&mut self, minute: u32, origin: u8) -> Result<(), Refusal> {
-        match unsafe { raw::a5_window_add(&mut *self.0, minute, origin) } {
-            0 => Ok(()),
-            n => Err(Refusal::from_number(n).expect("a number of document 02")),
-        }
+        given(unsafe { raw::a5_window_add(&mut *self.0, minute, origin) }, ())
     }
 
     /// How many of the kept strikes each origin has.
@@ -58,6 +57,15 @@ impl Window {
     #[inline]
     pub fn kept(&self) -> u32 {
         unsafe { raw::a5_window_kept(&*self.0) }
+    }
+
+    /// The as-run sheet: 60 lines of 80 columns, each ended by a newline, with a row for each origin's count and one for
+    /// their sum.
+    pub fn sheet(&self) -> String {
+        let mut page = vec![0; PAGE];
+        let status = unsafe { raw::a5_sheet(&*self.0, page.as_mut_ptr(), page.len()) };
+        assert_eq!(status, 0, "a page of the right length");
+        String::from_utf8(page).expect("letters, digits, spaces and newlines")
     }
 }
 

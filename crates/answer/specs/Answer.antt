@@ -44,6 +44,8 @@ numberOf refusal.AngleOutside = 19
 numberOf refusal.WishCount = 24
 -- turns: not exactly 16 grant places
 numberOf refusal.GrantCount = 25
+-- Paper 13: the lent page isn't 4,860 bytes
+numberOf refusal.PageLength = 26
 
 abbrev pub givenCheck : Check → Given (Unit {0})
 givenCheck check.Passed = passed

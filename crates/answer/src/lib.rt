@@ -29,6 +29,8 @@ pub enum Refusal {
     WishCount,
     // turns: not exactly 16 grant places
     GrantCount,
+    // A page for the sheet isn't 4,860 bytes (Paper 13, 26).
+    PageLength,
 }
 
 // The number of a refusal.
@@ -54,6 +56,7 @@ pub fn number(r: Refusal) -> u8
         Refusal::AngleOutside => 19,
         Refusal::WishCount => 24,
         Refusal::GrantCount => 25,
+        Refusal::PageLength => 26,
     }
 }
 

@@ -3,3 +3,4 @@ pub mod Calls
 pub mod Slots
 pub mod Boxes
 pub mod Windows
+pub mod Sheets

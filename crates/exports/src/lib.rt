@@ -9,6 +9,7 @@
 pub mod boxes;
 pub mod calls;
 pub mod channels;
+pub mod sheets;
 pub mod slots;
 pub mod windows;
 

@@ -1,3 +1,4 @@
 pub mod Written
 pub mod Lines
 pub mod Cutting
+pub mod Decimal

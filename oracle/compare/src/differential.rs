@@ -14,7 +14,7 @@ use crate::script::Script;
 use crate::set::Set;
 use crate::spoil::Spoil;
 use crate::turns_compared::Turns;
-use crate::{conversions, nearest, outside, refused, windows};
+use crate::{conversions, nearest, outside, refused, sheets, windows};
 
 const FOUR: [Call; 4] = [Forward, Inverse, Place, Unplace];
 
@@ -192,5 +192,6 @@ pub fn run(n: u64, seed: u64, spoil: Option<Spoil>) {
     counts.add(&run.boxes.counts);
     counts.write();
     windows::run(n, seed, None);
+    sheets::run(n, seed, None);
     println!("{n} inputs a call, seed {seed}: no difference");
 }

@@ -45,6 +45,10 @@ mod series_distance;
 #[allow(dead_code)]
 #[path = "../../calls/src/set.rs"]
 mod set;
+#[allow(dead_code)]
+#[path = "../../sheet/src/sheet.rs"]
+mod sheet;
+mod sheets;
 mod spoil;
 mod step_distance;
 #[allow(dead_code)]
@@ -78,6 +82,9 @@ fn main() {
         [n, seed] => differential::run(number(n), number(seed), None),
         [n, seed, "window", what, place] => {
             windows::run(number(n), number(seed), Some((what, place)))
+        }
+        [n, seed, "sheet", what, place] => {
+            sheets::run(number(n), number(seed), Some((what, place)))
         }
         [n, seed, call, what, place] => {
             let spoil = Spoil::named(call, what, place).expect("a call, what is changed and where");

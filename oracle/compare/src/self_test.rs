@@ -3,7 +3,7 @@
 
 use crate::counts::{CALLS, PLACES};
 use crate::spoil::WHATS;
-use crate::windows;
+use crate::{sheets, windows};
 use std::process::Command;
 
 // How a run ended, and its first line.
@@ -55,6 +55,14 @@ pub fn run() {
             let (status, line) = ended(&["window", what, place]);
             let found = status == Some(1) && line == format!("DIFFERENCE in window ({place})");
             assert!(found, "window, {what}, {place}: {status:?} {line}");
+            tried += 1;
+        }
+    }
+    for what in sheets::WHATS {
+        for place in sheets::PLACES {
+            let (status, line) = ended(&["sheet", what, place]);
+            let found = status == Some(1) && line == format!("DIFFERENCE in sheet ({place})");
+            assert!(found, "sheet, {what}, {place}: {status:?} {line}");
             tried += 1;
         }
     }

@@ -1,0 +1,2 @@
+-- The laws of numbers in decimal.
+pub mod Digits

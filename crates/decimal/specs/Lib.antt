@@ -1,0 +1,2 @@
+-- A number in decimal, as text. Definitions only.
+pub mod Decimal
