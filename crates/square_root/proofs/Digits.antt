@@ -1,5 +1,5 @@
 -- What a pattern's digits and places say of its value, where that is finite and above zero. Assumes nothing.
-use mathlib.Core.Path.{_≡_, refl, sym, subst}
+use mathlib.Core.Path.{_≡_, refl, subst}
 use mathlib.Core.Bool.{Bool, true, false, cond}
 use Prim.Native.Nat.{ℕ, _+_, _-_, _*_, _/_, _%_, _^_, _≤_, _<_}
 use native.Mathlib.Omega.{arith}
@@ -18,7 +18,8 @@ pub record Split (b m h : ℕ) : Type 0 where
   pub is : HasValue (ofBits binary64 b) false (m * 2 ^ h) (2 ^ 1074)
   pub full : 0 < h → 2 ^ 52 ≤ m
 
-by-exponent : (b : ℕ) → 0 < b → b < 2047 * 2 ^ 52 → (low : Bool) → eqb (b / 2 ^ 52) 0 ≡ low → Split b (cond low (b % 2 ^ 52) (2 ^ 52 + b % 2 ^ 52)) (b / 2 ^ 52 - 1)
+by-exponent : (b : ℕ) → 0 < b → b < 2047 * 2 ^ 52 → (low : Bool) → eqb (b / 2 ^ 52) 0 ≡ low
+    → Split b (cond low (b % 2 ^ 52) (2 ^ 52 + b % 2 ^ 52)) (b / 2 ^ 52 - 1)
 by-exponent b lo hi true e =
     let z = eqb-true (b / 2 ^ 52) 0 e in
     let h : 0 ≡ b / 2 ^ 52 - 1 = omega (arith, z) in

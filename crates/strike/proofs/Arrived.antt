@@ -117,9 +117,17 @@ fitting-whole room line h = rw (le-ltb room LINE h, fitting)
 
 -- with room for a line, the last line is the one that the input's end gives
 pub ended : (room written kept : ℕ) (s last : State) (before out : List ℕ) → LINE ≤ length before → length (last .kept) ≡ kept → Read room s last
-    → written ≡ length (fitting (length before) (endLine (last .stage) kept)) → out ≡ put before 0 (fitting (length before) (endLine (last .stage) kept)) → Ended room s written out
+    → written ≡ length (fitting (length before) (endLine (last .stage) kept))
+    → out ≡ put before 0 (fitting (length before) (endLine (last .stage) kept)) → Ended room s written out
 ended room written kept s last before out roomy k r w o =
     let line = endLine (last .stage) (length (last .kept)) in
-    let fits : fitting (length before) (endLine (last .stage) kept) ≡ line = fitting-whole (length before) (endLine (last .stage) kept) roomy ∙ ap (endLine (last .stage)) (sym k) in
+    let fits : fitting (length before) (endLine (last .stage) kept) ≡ line =
+    fitting-whole (length before) (endLine (last .stage) kept) roomy
+    ∙ ap (endLine (last .stage)) (sym k) in
     let is : written ≡ length line = w ∙ ap length fits in
-    record { last = last; read = r; written-is = is; line-is = ap (λ (n : ℕ). take n out) is ∙ ap (take (length line)) (o ∙ ap (put before 0) fits) ∙ put-start before line }
+    record {
+      last = last;
+      read = r;
+      written-is = is;
+      line-is = ap (λ (n : ℕ). take n out) is ∙ ap (take (length line)) (o ∙ ap (put before 0) fits) ∙ put-start before line;
+    }

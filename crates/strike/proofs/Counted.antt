@@ -52,7 +52,8 @@ module _ (reads : ℕ) (s : Set) (bytes : List ℕ) (room : ℕ) where
       → let k = answerable n (drop header bytes) room in Lasts (reads - 1) (Records (n - k)) (length (drop (header + k * 10) bytes))
   records-last header n h r l =
       let k = answerable n (drop header bytes) room in
-      let there = le-trans (min-le-right n (min (length (drop header bytes) / 10) (room / LINE))) (min-le-left (length (drop header bytes) / 10) (room / LINE)) in
+      let whole = length (drop header bytes) / 10 in
+      let there = le-trans (min-le-right n (min whole (room / LINE))) (min-le-left whole (room / LINE)) in
       by (n - k) refl (omega (arith, there, length-drop header bytes))
     where
       by : (m : ℕ) → m ≡ n - answerable n (drop header bytes) room → answerable n (drop header bytes) room * 10 + header ≤ length bytes
@@ -60,7 +61,8 @@ module _ (reads : ℕ) (s : Set) (bytes : List ℕ) (room : ℕ) where
       by zero e t = omega arith
       by (suc m) e t = omega (arith, length-drop (header + answerable n (drop header bytes) room * 10) bytes)
 
-  fed-lasts : (stage : Stage) (kept : ℕ) → Counted reads stage kept → over stage ≡ false → kept < length bytes → LINE ≤ room → After (fed ieee ORIGINS stage s bytes room)
+  fed-lasts : (stage : Stage) (kept : ℕ) → Counted reads stage kept → over stage ≡ false → kept < length bytes → LINE ≤ room
+      → After (fed ieee ORIGINS stage s bytes room)
   unfolding fed recordsFed
   fed-lasts Stopped kept c o h r = absurd (true≢false o)
   fed-lasts (Records zero) kept c o h r = absurd (true≢false o)
@@ -96,14 +98,15 @@ counted-first (Records n) b = absurd b
 counted-first Stopped b = (tt, omega arith)
 
 -- a step more
-pub read-on : (room space : ℕ) (s t u : State) (before out : List ℕ) (ended : Bool) → length before ≡ room → Read room s t → Stepped space t u before out ended → Read room s u
+pub read-on : (room space : ℕ) (s t u : State) (before out : List ℕ) (ended : Bool) → length before ≡ room → Read room s t → Stepped space t u before out ended
+    → Read room s u
 read-on room space s t u before out ended l r (rests e o) = subst (Read room s) (sym e) r
 read-on room space s t u before out ended l r (goes-on p f m v e o) =
     subst (Read room s) (sym (e ∙ ap (λ (n : ℕ). next n t p) l)) (more r p f v)
 read-on room space s t u before out ended l r (stops p f m v e o) = failed e
 
-pub counted-on : (reads space : ℕ) (t u : State) (before out : List ℕ) (ended : Bool) → (space / 10 + 1) * LINE ≤ length before → Stepped space t u before out ended → ended ≡ false
-    → Counted reads (t .stage) (length (t .kept)) → Counted (reads - 1) (u .stage) (length (u .kept))
+pub counted-on : (reads space : ℕ) (t u : State) (before out : List ℕ) (ended : Bool) → (space / 10 + 1) * LINE ≤ length before
+    → Stepped space t u before out ended → ended ≡ false → Counted reads (t .stage) (length (t .kept)) → Counted (reads - 1) (u .stage) (length (u .kept))
 counted-on reads space t u before out ended l (rests e o) z c = absurd (true≢false z)
 counted-on reads space t u before out ended l (stops p f m v e o) z c = absurd (true≢false z)
 counted-on reads space t u before out ended l (goes-on p f m v e o) z c =

@@ -51,7 +51,10 @@ fn step(
     out: &mut [u8],
 ) -> Standing
     requires { ⌜ (over (at .stage) ≡ false → at .kept < length (now buffer)) × (at .kept ≤ length (now buffer)) ⌝ }
-    ensures { λ r. ⌜ Stepped (length (now (buffer .entry))) (stateOf (at .stage) (at .kept) (now (frame .entry)) (now (face .entry)) (now (sphere .entry)) (now (buffer .entry))) (stateOf (r .stage) (r .kept) (now (frame .entry)) (now (face .exit)) (now (sphere .exit)) (now (buffer .exit))) (now (out .entry)) (now (out .exit)) (r .ended) ⌝ }
+    ensures { λ r. ⌜ Stepped (length (now (buffer .entry)))
+        (stateOf (at .stage) (at .kept) (now (frame .entry)) (now (face .entry)) (now (sphere .entry)) (now (buffer .entry)))
+        (stateOf (r .stage) (r .kept) (now (frame .entry)) (now (face .exit)) (now (sphere .exit)) (now (buffer .exit)))
+        (now (out .entry)) (now (out .exit)) (r .ended) ⌝ }
     ensures { λ r. ⌜ r .kept ≤ length (now (buffer .exit)) ⌝ }
 {
     let stage = at.stage;
@@ -100,7 +103,9 @@ fn read_all(
 ) -> Standing
     requires { ⌜ Begins stage × Roomy (now buffer) (now out) ⌝ }
     ensures { λ r. ⌜ r .ended ≡ true ⌝ }
-    ensures { λ r. ⌜ Read (length (now (out .entry))) (stateOf stage 0 (now (frame .entry)) (now (face .entry)) (now (sphere .entry)) (now (buffer .entry))) (stateOf (r .stage) (r .kept) (now (frame .entry)) (now (face .exit)) (now (sphere .exit)) (now (buffer .exit))) ⌝ }
+    ensures { λ r. ⌜ Read (length (now (out .entry)))
+        (stateOf stage 0 (now (frame .entry)) (now (face .entry)) (now (sphere .entry)) (now (buffer .entry)))
+        (stateOf (r .stage) (r .kept) (now (frame .entry)) (now (face .exit)) (now (sphere .exit)) (now (buffer .exit))) ⌝ }
     ensures { λ r. ⌜ r .kept ≤ length (now (buffer .exit)) ⌝ }
 {
     let mut at = Standing {
@@ -126,7 +131,8 @@ fn answer_all(
     out: &mut [u8],
 ) -> usize
     requires { ⌜ Begins stage × Roomy (now buffer) (now out) ⌝ }
-    ensures { λ r. ⌜ Ended (length (now (out .entry))) (stateOf stage 0 (now (frame .entry)) (now (face .entry)) (now (sphere .entry)) (now (buffer .entry))) r (now (out .exit)) ⌝ }
+    ensures { λ r. ⌜ Ended (length (now (out .entry)))
+        (stateOf stage 0 (now (frame .entry)) (now (face .entry)) (now (sphere .entry)) (now (buffer .entry))) r (now (out .exit)) ⌝ }
     ensures { λ r. ⌜ r ≤ length (now (out .exit)) ⌝ }
 {
     let at = read_all(stage, frame, face, sphere, buffer, out);

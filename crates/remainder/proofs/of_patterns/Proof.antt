@@ -23,7 +23,8 @@ module _ (c : tie.After-split2) where
       let a = c .before .before in
       let s = c .before .split .result in
       let t = c .split2 .result in
-      higher (ofBits binary64 (a .args .p)) (ofBits binary64 (a .args .q)) (s .m) (s .h) (t .m) (t .h) (first .is) (second .is) (first .few) (second .some) (second .full) (a .pre .4)
+      higher (ofBits binary64 (a .args .p)) (ofBits binary64 (a .args .q)) (s .m) (s .h) (t .m) (t .h)
+      (first .is) (second .is) (first .few) (second .some) (second .full) (a .pre .4)
 
 sub-shifted : tie.Need-sub-shifted
 sub-shifted c = places (c .before .before)
@@ -39,7 +40,8 @@ joined-requires c κs =
 
 returns : tie.Need-returns
 returns c =
-    let k = c .before .before .before .before in
+    let j = c .before .before .before in
+    let k = j .before in
     let a = k .before .before .args in
     let s = k .before .split .result in
     let t = k .split2 .result in

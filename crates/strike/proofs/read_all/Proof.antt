@@ -1,5 +1,6 @@
--- `strike::read_all` meets its contract. The loop's invariant: the standing is what the reads came to, lengths are as they were, and where the program has not ended,
--- the reads that are left last for the bytes that the session can still take. The measure is the number of reads that are left. Assumes nothing.
+-- `strike::read_all` meets its contract. The loop's invariant: the standing is what the reads came to, lengths are as they were, and where the program
+-- has not ended, the reads that are left last for the bytes that the session can still take. The measure is the number of reads that are left.
+-- Assumes nothing.
 use mathlib.Core.Path.{_≡_, refl, sym, _∙_, subst}
 use mathlib.Core.Bool.{Bool, true, false}
 use mathlib.Core.List.{List}
@@ -98,7 +99,8 @@ loop-again c =
       k .1 .1 .0 ∙ i .inv .2,
       k .1 .1 .1 .0 ∙ i .inv .3,
       q .step .ensures .1,
-      read-on (length (a .out .now)) (length (i .buffer)) first (t q) (u q) (i .out) (out q) (q .step .result .ended) (i .inv .3) (i .inv .5) (q .step .ensures .0),
+      read-on (length (a .out .now)) (length (i .buffer)) first (t q) (u q) (i .out) (out q) (q .step .result .ended)
+          (i .inv .3) (i .inv .5) (q .step .ensures .0),
       counted q,
     )
 

@@ -35,7 +35,8 @@ answer-all-requires c κs =
     let b = begun c in
     let s = start b in
     let a = s .args in
-    (begins (b .begin .result .stage) (openGiven ieee ORIGINS (a .frame .now) (a .face .now) (a .sphere .now)) (b .begin .ensures .0), (s .pre .0, omega (arith, s .pre .1, b .begin .kept .1 .1 .1 .0)))
+    let opened = openGiven ieee ORIGINS (a .frame .now) (a .face .now) (a .sphere .now) in
+    (begins (b .begin .result .stage) opened (b .begin .ensures .0), (s .pre .0, omega (arith, s .pre .1, b .begin .kept .1 .1 .1 .0)))
 
 slice-aggregate-write-all-2 : tie.Need-slice-aggregate-write-all-2
 slice-aggregate-write-all-2 c = sym (length-take-le _ _ (search needs))

@@ -63,16 +63,14 @@ module _ (c : tie.After-feed-buffer) where
   abbrev piece : List ℕ
   piece = arrived (s .args .at .kept) (r .read-behind .result) (r .read-behind .last .0)
 
+  many : length piece ≡ r .read-behind .result
+  many = arrived-length (s .args .at .kept) (r .read-behind .result) (r .read-behind .last .0) (r .read-behind .ensures .0)
+
   filled : 0 < length piece
-  filled = rw (arrived-length (s .args .at .kept) (r .read-behind .result) (r .read-behind .last .0) (r .read-behind .ensures .0)) (omega (arith, some c .if2 .left))
+  filled = rw many (omega (arith, some c .if2 .left))
 
   within : length piece ≤ length (s .args .buffer .now)
-  within = omega (
-    arith,
-    arrived-length (s .args .at .kept) (r .read-behind .result) (r .read-behind .last .0) (r .read-behind .ensures .0),
-    r .read-behind .ensures .0,
-    r .read-behind .kept .0,
-  )
+  within = omega (arith, many, r .read-behind .ensures .0, r .read-behind .kept .0)
 
   buffer-length : c .feed-buffer .result .kept ≤ length (c .feed-buffer .last .1 .1 .1 .1 .0)
   buffer-length = omega (arith, c .feed-buffer .ensures .1 .0, c .feed-buffer .kept .1 .1 .1 .1 .0)

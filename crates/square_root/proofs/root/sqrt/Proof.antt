@@ -54,8 +54,11 @@ returns-5 c =
     own s b refl (at-top b (c .if5 .taken) (c .before .before .if2 .left))
 
 -- the parts of the pattern, which is neither 0 nor at the top
-parts : (c : tie.After-split) → Split (toBits binary64 (c .before .before .before .before .before .args .x)) (c .split .result .m) (c .split .result .h)
-parts c = let b = c .before .before .before .before .before .args .x in split-is (toBits binary64 b) (c .split .result .m) (c .split .result .h) (c .split .ensures) (omega arith) (omega arith)
+abbrev whole : tie.After-split → tie.Start
+whole c = let t = c .before .before .before in t .before .before
+
+parts : (c : tie.After-split) → Split (toBits binary64 (whole c .args .x)) (c .split .result .m) (c .split .result .h)
+parts c = split-is (toBits binary64 (whole c .args .x)) (c .split .result .m) (c .split .result .h) (c .split .ensures) (omega arith) (omega arith)
 
 widened-requires : tie.Need-widened-requires
 widened-requires c κs = let p = parts c in (p .some, p .few, p .most)
