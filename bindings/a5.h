@@ -1,7 +1,7 @@
 /*
  * Twelve faces for regional maps: the calls of the proved library, for C and C++ on x86-64.
  *
- * Link with libexports.a, which `rt staticlib exports` writes: -lexports.
+ * Link with liba5faces.a, which `bindings/library` writes: -la5faces.
  *
  * A call that can be refused returns A5_ANSWERED (0), or the number of its refusal. a5_box_new, a5_window_new and
  * a5_window_counts are never refused and return nothing, a5_window_kept returns the number kept. An answer goes to the

@@ -29,7 +29,7 @@ on_a_set! {
     a5_unplace(x, y, origin: u8);
 }
 
-#[link(name = "exports", kind = "static")]
+#[link(name = "a5faces", kind = "static")]
 extern "C" {
     pub fn a5_open(
         frame: *mut f64,

@@ -1,4 +1,4 @@
--- What a C function returns, and what it leaves in the numbers lent for its answer, by what its call gives. Definitions only.
+-- What a C function leaves in the numbers lent for its answer, by what its call gives. Definitions only.
 use Prim.Native.Nat.{ℕ}
 use mathlib.Core.List.{List, [], _∷_}
 use lib.Ieee.{Float}
@@ -8,20 +8,12 @@ use Rattle.coordinates.specs.declared.lonlat.LonLat.{LonLat}
 use Rattle.coordinates.specs.declared.spherical.Spherical.{Spherical}
 use Rattle.dodecahedron.specs.declared.used.Place.{Place}
 
--- 0 for an answer, and the number of a refusal
-abbrev pub status : {A : Type 0} → Given A → ℕ
-status (answered a) = 0
-status (refused n) = n
-
 -- ---- arguments
 abbrev pub lonLat : Float → Float → LonLat
 lonLat longitude latitude = record { longitude = record { 0 = longitude }; latitude = record { 0 = latitude } }
 
 abbrev pub spherical : Float → Float → Spherical
 spherical theta phi = record { theta = record { 0 = theta }; phi = record { 0 = phi } }
-
-abbrev pub facePoint : Float → Float → Face
-facePoint x y = record { 0 = record { x = x; y = y } }
 
 -- ---- what is lent for an answer: a refusal leaves it
 abbrev pub idAfter : Given ℕ → ℕ → ℕ

@@ -1,6 +1,3 @@
 -- The calls as C functions: what they return, and what they leave in the numbers lent for their answers. Definitions only.
 pub mod Calls
 pub mod Slots
-pub mod Boxes
-pub mod Windows
-pub mod Sheets

@@ -13,7 +13,8 @@ ghost use mathlib.Core.Path.{_≡_};
 ghost use Rattle.arithmetic.specs.Arith.{ieee};
 ghost use Rattle.origin.specs.Origins.{ORIGINS};
 ghost use Rattle.dodecahedron.specs.Calls.{answerOf, usedOf, faceAfter, sphereAfter, forwardGiven, inverseGiven, placeGiven, unplaceGiven};
-ghost use Rattle.exports.specs.Calls.{status, lonLat, spherical, facePoint, sphericalAfter, lonLatAfter, pointAfter, placeIdAfter, placePointAfter};
+ghost use Rattle.exports_tools.specs.Status.{status, facePoint};
+ghost use Rattle.exports.specs.Calls.{lonLat, spherical, sphericalAfter, lonLatAfter, pointAfter, placeIdAfter, placePointAfter};
 
 // Forward: the face point, x and y, of a position, in radians, on the face of an origin.
 #[no_mangle]

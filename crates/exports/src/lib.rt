@@ -6,12 +6,8 @@
 // numbers is lent as a reference to an array of two, in C a pointer: it has no length to be wrong.
 // The caller sees to it that a pointer is not null, that so many numbers stand there, and that no
 // two that are lent overlap.
-pub mod boxes;
 pub mod calls;
-pub mod channels;
-pub mod sheets;
 pub mod slots;
-pub mod windows;
 
 use coordinates::base::Degrees;
 use coordinates::base::Radians;
@@ -28,7 +24,8 @@ ghost use Rattle.origin.specs.Origins.{ORIGINS};
 ghost use Rattle.origin.specs.Nearest.{nearestGiven};
 ghost use Rattle.set.specs.Sizes.{FACE-STORE, SPHERE-STORE};
 ghost use Rattle.set.specs.Open.{openGiven, frameAfter, clearedAfter};
-ghost use Rattle.exports.specs.Calls.{status, idAfter, sphericalAfter, lonLatAfter, lonLat, spherical};
+ghost use Rattle.exports_tools.specs.Status.{status};
+ghost use Rattle.exports.specs.Calls.{idAfter, sphericalAfter, lonLatAfter, lonLat, spherical};
 
 // Open: writes the frame and fills both stores with 0.0.
 #[no_mangle]

@@ -6,7 +6,7 @@ use show::StoreKind;
 ghost use mathlib.Core.Path.{_≡_};
 ghost use Prim.Native.Nat.{_<_};
 ghost use Rattle.show.specs.Show.{slotGiven, slotsIn};
-ghost use Rattle.exports.specs.Calls.{status};
+ghost use Rattle.exports_tools.specs.Status.{status};
 ghost use Rattle.exports.specs.Slots.{storeNamed, coordinatesIn, filledAfter, partAfter};
 
 // 0 names the face store and every other number the sphere store, as C reads a truth value:

@@ -2,7 +2,7 @@
 use mathlib.Core.Path.{sym, ap, _∙_}
 use borrow.Author.Needs.{needs}
 use Rattle.set.specs.Open.{givenOpen}
-use Rattle.exports.specs.Calls.{status}
+use Rattle.exports_tools.specs.Status.{status}
 use Rattle.exports.proofs.a5_open.Statement.{statement}
 use Rattle.exports.proofs.a5_open.Tie as tie
 
