@@ -1,6 +1,7 @@
 // Before anything is timed: the library's answers on the inputs are the stepped Rust's, bit for bit.
 
 use crate::forms::{Form, Ours, Stepped};
+use crate::{FAR, TIMES};
 use a5_faces::Place;
 use a5_stepped::coordinate_systems::Cartesian;
 use a5_stepped::projections::crs::CRS;
@@ -58,11 +59,20 @@ pub fn check(degrees: &[[f64; 2]], radians: &[[f64; 2]]) {
         let point = |place: Place| [place.face.x, place.face.y];
         same("place", &point(place), &point(theirs));
         same("unplace", &ours.unplace(place), &rust.unplace(place));
+        let x = longitude * TIMES;
+        same(
+            "remainder",
+            &[ours.remainder(x, 360.0)],
+            &[rust.remainder(x, 360.0)],
+        );
     }
     for &[theta, phi] in radians {
         let id = ours.nearest(theta, phi);
         assert_eq!(id, rust.nearest(theta, phi), "nearest of {theta}, {phi}");
         let to = ours.to_lon_lat(theta, phi);
         same("to_lon_lat", &to, &rust.to_lon_lat(theta, phi));
+        for x in [theta, theta + FAR] {
+            same("sine", &[ours.sine(x)], &[rust.sine(x)]);
+        }
     }
 }

@@ -11,6 +11,15 @@ pub trait Form {
     fn to_lon_lat(&mut self, theta: f64, phi: f64) -> [f64; 2];
     fn place(&mut self, longitude: f64, latitude: f64) -> Place;
     fn unplace(&mut self, place: Place) -> [f64; 2];
+    fn sine(&mut self, x: f64) -> f64;
+    fn remainder(&mut self, x: f64, y: f64) -> f64;
+}
+
+// Sine and remainder by themselves are no calls of the library: crate exports_elementary has them for this alone.
+#[link(name = "exports_elementary", kind = "static")]
+extern "C" {
+    fn a5_sin(x: f64) -> f64;
+    fn a5_remainder(x: f64, y: f64) -> f64;
 }
 
 // The library, with the set of its calls and another that is only opened: the first stays used.
@@ -66,11 +75,20 @@ impl Form for Ours {
         let to = self.set.unplace(place).expect("unplace");
         [to.longitude, to.latitude]
     }
+
+    // They take numbers alone, and every number.
+    fn sine(&mut self, x: f64) -> f64 {
+        unsafe { a5_sin(x) }
+    }
+
+    fn remainder(&mut self, x: f64, y: f64) -> f64 {
+        unsafe { a5_remainder(x, y) }
+    }
 }
 
-// One form of the Rust: the same sources under another crate's name.
+// One form of the Rust: the same sources under another crate's name, and the sine that they use.
 macro_rules! rust_form {
-    ($form:ident, $a5:ident) => {
+    ($form:ident, $a5:ident, $sine:expr) => {
         pub struct $form($a5::projections::dodecahedron::DodecahedronProjection);
 
         impl $form {
@@ -124,9 +142,17 @@ macro_rules! rust_form {
                 let to = $a5::core::coordinate_transforms::to_lon_lat(position);
                 [to.longitude(), to.latitude()]
             }
+
+            fn sine(&mut self, x: f64) -> f64 {
+                $sine(x)
+            }
+
+            fn remainder(&mut self, x: f64, y: f64) -> f64 {
+                x % y
+            }
         }
     };
 }
 
-rust_form!(Stepped, a5_stepped);
-rust_form!(Plain, a5_plain);
+rust_form!(Stepped, a5_stepped, a5_stepped::steps::sin);
+rust_form!(Plain, a5_plain, f64::sin);

@@ -17,14 +17,22 @@ const POINTS: usize = 5000;
 const A_RUN: usize = 250;
 const RUNS: usize = 401;
 
-const CALLS: [&str; 6] = [
+const CALLS: [&str; 9] = [
     "open",
     "nearest",
     "from_lon_lat",
     "to_lon_lat",
     "place",
     "unplace",
+    "sine",
+    "sine far",
+    "remainder",
 ];
+
+// Sine within a turn is at the points' own theta, beyond it at theta and so much more: some six turns. The remainder is
+// that of a longitude times so much, by a turn in degrees.
+pub const FAR: f64 = 40.0;
+pub const TIMES: f64 = 1000.0;
 
 // Longitude and latitude of points that lie evenly over the sphere.
 fn points() -> Vec<[f64; 2]> {
@@ -65,6 +73,9 @@ fn run(form: &mut impl Form, points: &Points, at: usize) -> [f64; CALLS.len()] {
         time(radians, |p| form.to_lon_lat(p[0], p[1])),
         time(degrees, |p| form.place(p[0], p[1])),
         time(places, |p| form.unplace(p)),
+        time(radians, |p| form.sine(p[0])),
+        time(radians, |p| form.sine(p[0] + FAR)),
+        time(degrees, |p| form.remainder(p[0] * TIMES, 360.0)),
     ]
 }
 

@@ -1,13 +1,19 @@
--- The pair of sine and cosine after k quarter turns, for each k that the code tells apart, and at an argument that is not finite. Assumes nothing.
+-- The pair of sine and cosine after k quarter turns, for each k that the code tells apart; at an argument that is not finite; and that whole turns
+-- change nothing. Assumes nothing.
 use mathlib.Core.Path.{_≡_, refl, sym, ap, _∙_}
 use mathlib.Core.Bool.{true, false, true≢false, false≢true}
 use Prim.Native.Nat.{ℕ, zero, suc}
-use lib.Ieee.{Float, nan, inf, fin, binary64, mul, rem, neg}
+use lib.Dec.{T}
+use lib.Ieee.{Float, nan, inf, fin, binary64, mul, rem, neg, lt, fits}
+use lib.Ieee.Fits.{rem-fits}
 use Rattle.answer.specs.Number.{isFinite}
 use Rattle.arithmetic.specs.Arith.{ieee}
+use Rattle.square_root.specs.Signs.{abs}
 use Rattle.elementary.specs.Constants.{TAU, FRAC-2-PI, sineFirst, sineRest, cosineFirst, cosineRest}
 use Rattle.elementary.specs.Whole.{roundℤ}
+use Rattle.elementary.specs.declared.sine.SinCos.{SinCos}
 use Rattle.elementary.specs.Sine.{series, modulo4, wholeFloat, reduced, sinCosReduced, sinCosFinite, sinCos}
+use Rattle.elementary.proofs.Turn.{left-within, within-finite, within-own}
 
 -- document 01's S and C
 abbrev pub S : Float → Float
@@ -55,11 +61,24 @@ module _ (x : Float) where
       go (inf s) e = unfold isFinite in absurd (false≢true e)
       go (fin s m d) e = unfold sinCos in refl
 
-  pub reduced-pair : isFinite x ≡ true → (y n : Float) (k : ℕ) → y ≡ rem binary64 x TAU → n ≡ wholeFloat ieee (roundℤ (mul binary64 y FRAC-2-PI))
-      → k ≡ modulo4 (roundℤ (mul binary64 y FRAC-2-PI)) → sinCosReduced ieee k (reduced ieee y n) ≡ sinCos ieee x
-  unfolding sinCosFinite
-  reduced-pair h y n k e f g =
-      ap (λ (j : ℕ). sinCosReduced ieee j (reduced ieee y n)) g
-      ∙ ap (λ (m : Float). sinCosReduced ieee (modulo4 (roundℤ (mul binary64 y FRAC-2-PI))) (reduced ieee y m)) f
-      ∙ ap (λ (z : Float). sinCosReduced ieee (modulo4 (roundℤ (mul binary64 z FRAC-2-PI))) (reduced ieee z (wholeFloat ieee (roundℤ (mul binary64 z FRAC-2-PI))))) e
-      ∙ sym (finite-pair h)
+-- document 01's pair from the angle y that is left
+abbrev pairOf : Float → SinCos
+pairOf y = let n = roundℤ (mul binary64 y FRAC-2-PI) in sinCosReduced ieee (modulo4 n) (reduced ieee y (wholeFloat ieee n))
+
+from-left : (x : Float) → isFinite x ≡ true → sinCos ieee x ≡ pairOf (rem binary64 x TAU)
+unfolding sinCosFinite
+from-left x f = finite-pair x f
+
+module _ (y : Float) (held : T (fits binary64 y)) (within : lt (abs y) TAU ≡ true) where
+  pub pair-within : sinCos ieee y ≡ pairOf y
+  pair-within = from-left y (within-finite y within) ∙ ap pairOf (sym (within-own y held within))
+
+  pub reduced-pair : (n : Float) (k : ℕ) → n ≡ wholeFloat ieee (roundℤ (mul binary64 y FRAC-2-PI)) → k ≡ modulo4 (roundℤ (mul binary64 y FRAC-2-PI))
+      → sinCosReduced ieee k (reduced ieee y n) ≡ sinCos ieee y
+  reduced-pair n k e f = rw (e, f) (sym pair-within)
+
+-- whole turns change no sine
+pub by-turns : (x y : Float) → T (fits binary64 x) → isFinite x ≡ true → y ≡ rem binary64 x TAU → sinCos ieee y ≡ sinCos ieee x
+by-turns x y held f e =
+    let left = rem binary64 x TAU in
+    ap (sinCos ieee) e ∙ pair-within left (rem-fits binary64 x TAU held) (left-within x held f) ∙ sym (from-left x f)

@@ -1,8 +1,8 @@
 -- The reduction of an angle: the remainder by TAU is below TAU, so the count of quarter turns is at most 17/4,
 -- and the nearest whole number n to it, as a float and mod 4, from its size and a comparison with 0. Assumes nothing.
-use mathlib.Core.Path.{_≡_, refl, sym, ap, _∙_}
+use mathlib.Core.Path.{_≡_, refl, sym, ap, _∙_, subst}
 use Prim.Native.Nat.{ℕ, zero, suc, _+_, _-_, _*_, _%_, _^_, _≤_, _<_}
-use native.Mathlib.Nat.{le-trans, le-of-lt, lt-of-le-of-lt, mul-le-mul-right, mod-lt, zero-lt-suc, div-eq-of-lt}
+use native.Mathlib.Nat.{le-trans, le-of-lt, lt-of-le-of-lt, mul-le-mul-right, mul-lt-mul-of-pos-right, mod-lt, zero-lt-suc, div-eq-of-lt}
 use native.Mathlib.Omega.{arith}
 use mathlib.Core.Bool.{Bool, true, false, cond, false≢true}
 use borrow.Author.Tests.{ltb-true, ltb-false, lt-ltb}
@@ -21,8 +21,9 @@ use Rattle.arithmetic.proofs.Product.{mul-most, zero-plus}
 use Rattle.arithmetic.proofs.Remainder.{rem-exact}
 use Rattle.arithmetic.proofs.Rounding.{AtMost, neg-round}
 use Rattle.arithmetic.proofs.Units.{of-value, rise}
-use Rattle.elementary.specs.Constants.{TAU, FRAC-2-PI}
 use Rattle.square_root.specs.Signs.{abs, negative}
+use Rattle.remainder.proofs.Values.{own-remainder}
+use Rattle.elementary.specs.Constants.{TAU, FRAC-2-PI}
 use Rattle.elementary.specs.Sine.{modulo4, wholeFloat}
 use Rattle.elementary.specs.Whole.{roundSize, roundℤ}
 use Rattle.elementary.proofs.Fraction.{2^52}
@@ -40,7 +41,35 @@ tau-fits : T (fits binary64 (fin false tauDigits (negsuc 46)))
 unfolding fits
 tau-fits = tt
 
-pub remainder-below : (x : Float) → T (fits binary64 x) → isFinite x ≡ true → AtMost binary64 (rem binary64 x TAU) (negative x) turn
+abs-value : (x : Float) (s : Bool) (a c : ℕ) → HasValue x s a c → HasValue (abs x) false a c
+unfolding abs
+abs-value x s a c = of-value (λ y. HasValue (abs y) false a c) s a c (λ m e h. (refl, h)) x
+
+-- what is left of a finite angle is below a turn
+pub left-within : (x : Float) → T (fits binary64 x) → isFinite x ≡ true → lt (abs (rem binary64 x TAU)) TAU ≡ true
+unfolding isFinite TAU ofBits
+left-within nan h f = absurd (false≢true f)
+left-within (inf s) h f = absurd (false≢true f)
+left-within (fin s m e) h f =
+    let left = m * 2 ^ rise binary64 e % turn in
+    let y = rem binary64 (fin s m e) TAU in
+    let is : HasValue y s left (2 ^ 1074) = rem-exact binary64 s m e false tauDigits (negsuc 46) h tau-fits (lit< tt) in
+    let less : left < turn = mod-lt (m * 2 ^ rise binary64 e) (lit< tt) in
+    lt-values false false left (2 ^ 1074) tauDigits (2 ^ 47) (pow-pos 1074) (pow-pos 47) (abs y) TAU (abs-value y s left (2 ^ 1074) is) (refl, refl)
+    ∙ lt-ltb (left * 2 ^ 47) (tauDigits * 2 ^ 1074) (mul-lt-mul-of-pos-right less (pow-pos 47))
+
+-- an angle within a turn is finite, and is what is left of it
+pub within-finite : (y : Float) → lt (abs y) TAU ≡ true → isFinite y ≡ true
+unfolding isFinite lt abs TAU ofBits
+within-finite nan l = absurd (false≢true l)
+within-finite (inf s) l = absurd (false≢true l)
+within-finite (fin s m e) l = refl
+
+pub within-own : (y : Float) → T (fits binary64 y) → lt (abs y) TAU ≡ true → y ≡ rem binary64 y TAU
+unfolding TAU abs ofBits
+within-own y h l = own-remainder y TAU h l
+
+remainder-below : (x : Float) → T (fits binary64 x) → isFinite x ≡ true → AtMost binary64 (rem binary64 x TAU) (negative x) turn
 unfolding isFinite negative TAU ofBits
 remainder-below nan h f = absurd (false≢true f)
 remainder-below (inf s) h f = absurd (false≢true f)
@@ -50,6 +79,10 @@ remainder-below (fin s m e) h f =
       is = rem-exact binary64 s m e false tauDigits (negsuc 46) h tau-fits (lit< tt);
       most = le-of-lt (mod-lt (m * 2 ^ rise binary64 e) (lit< tt));
     }
+
+within-below : (y : Float) → T (fits binary64 y) → lt (abs y) TAU ≡ true → AtMost binary64 y (negative y) turn
+within-below y h l =
+    subst (λ (z : Float). AtMost binary64 z (negative y) turn) (sym (within-own y h l)) (remainder-below y h (within-finite y l))
 
 -- FRAC_2_PI is this times 2 ^ -53
 abbrev quarterDigits : ℕ
@@ -62,24 +95,30 @@ quartersMost = 17 * 2 ^ 1072
 product : (y : Float) (s : Bool) → AtMost binary64 y s turn → AtMost binary64 (mul binary64 y FRAC-2-PI) (unlike s false) quartersMost
 unfolding FRAC-2-PI ofBits
 product y s r =
-    mul-most binary64 s false (r .units) (2 ^ 1074) quarterDigits (2 ^ 53) (pow-pos 1074) (pow-pos 53) y (fin false quarterDigits (negsuc 52)) 17 1072 (r .is) (refl, refl) (lit< tt) (lit< tt)
-    (le-trans (mul-le-mul-right (2 ^ 1074) (mul-le-mul-right quarterDigits (r .most))) (lit≤ tt))
+    let most = le-trans (mul-le-mul-right (2 ^ 1074) (mul-le-mul-right quarterDigits (r .most))) (lit≤ tt) in
+    mul-most binary64 s false (r .units) (2 ^ 1074) quarterDigits (2 ^ 53) (pow-pos 1074) (pow-pos 53)
+    y (fin false quarterDigits (negsuc 52)) 17 1072 (r .is) (refl, refl) (lit< tt) (lit< tt) most
 
-pub quarters-most : (y : Float) (s : Bool) → AtMost binary64 y s turn → AtMost binary64 (mul binary64 y FRAC-2-PI) s quartersMost
-quarters-most y true r = product y true r
-quarters-most y false r = product y false r
+quarters-signed : (y : Float) (s : Bool) → AtMost binary64 y s turn → AtMost binary64 (mul binary64 y FRAC-2-PI) s quartersMost
+quarters-signed y true r = product y true r
+quarters-signed y false r = product y false r
+
+-- the quarter turns of an angle within a turn
+pub quarters-few : (y : Float) → T (fits binary64 y) → lt (abs y) TAU ≡ true → AtMost binary64 (mul binary64 y FRAC-2-PI) (negative y) quartersMost
+quarters-few y h l = quarters-signed y (negative y) (within-below y h l)
+
+pub few-finite : (q : Float) (s : Bool) → AtMost binary64 q s quartersMost → isFinite q ≡ true
+unfolding isFinite
+few-finite q s r = of-value (λ y. isFinite y ≡ true) s (r .units) (2 ^ 1074) (λ m e h. refl) q (r .is)
 
 -- ---- the nearest whole number
-
-abs-value : (x : Float) (s : Bool) (a c : ℕ) → HasValue x s a c → HasValue (abs x) false a c
-unfolding abs
-abs-value x s a c = of-value (λ y. HasValue (abs y) false a c) s a c (λ m e h. (refl, h)) x
 
 -- what `nearest_size` asks
 pub size-asks : (q a : Float) (s : Bool) → a ≡ abs q → AtMost binary64 q s quartersMost → lt a 2^52 ≡ true
 size-asks q a s e r =
     ap (λ y. lt y 2^52) e
-    ∙ lt-values false false (r .units) (2 ^ 1074) (2 ^ 52) 1 (pow-pos 1074) (pow-pos 0) (abs q) 2^52 (abs-value q s (r .units) (2 ^ 1074) (r .is)) (refl, refl)
+    ∙ lt-values false false (r .units) (2 ^ 1074) (2 ^ 52) 1 (pow-pos 1074) (pow-pos 0)
+    (abs q) 2^52 (abs-value q s (r .units) (2 ^ 1074) (r .is)) (refl, refl)
     ∙ lt-ltb (r .units * 1) (2 ^ 52 * 2 ^ 1074) (lt-of-le-of-lt (mul-le-mul-right 1 (r .most)) (lit< tt))
 
 -- its sign: q is negative, or its size rounds to 0, where there is none
@@ -109,7 +148,8 @@ unfolding ofInt wholeFloat sub ofBits
 minus-float zero h = refl
 minus-float (suc k) h =
     ap (add binary64 (fin false 0 (pos 0))) (neg-round binary64 false (suc k) 1)
-    ∙ zero-plus binary64 (round binary64 true (suc k) 1) (suc k) 1 (round-fits binary64 true (suc k) 1) (round-whole binary64 true (suc k) h) (zero-lt-suc k)
+    ∙ zero-plus binary64 (round binary64 true (suc k) 1) (suc k) 1
+    (round-fits binary64 true (suc k) 1) (round-whole binary64 true (suc k) h) (zero-lt-suc k)
 
 -- mod 4
 pub plus-quarter : (k : ℕ) → k % 4 ≡ modulo4 (pos k)

@@ -3,9 +3,10 @@
 // `.._inside` give the value alone.
 ghost use mathlib.Core.Path.{_≡_};
 ghost use mathlib.Core.Bool.{true, false};
-ghost use lib.Ieee.{binary64, mul, rem};
+ghost use lib.Ieee.{binary64, mul, rem, lt};
 ghost use Rattle.answer.specs.Number.{isFinite};
 ghost use Rattle.arithmetic.specs.Arith.{ieee};
+ghost use Rattle.square_root.specs.Signs.{abs};
 ghost use Rattle.elementary.specs.Constants.{TAU, FRAC-2-PI, sineFirst, sineRest, cosineFirst, cosineRest};
 ghost use Rattle.elementary.specs.Whole.{roundℤ};
 ghost use Rattle.elementary.specs.Sine.{outside, givenSine, givenSinCos, sinGiven, cosGiven, sinCosGiven, tanGiven, series, modulo4, wholeFloat, sinCosReduced, sinCos, sin, cos, tan};
@@ -62,7 +63,9 @@ pub struct SinCos {
 
 // x mod one turn. A value within a turn is its own, which spares the call.
 fn within_turn(x: f64) -> f64
-    ensures { λ r. ⌜ r ≡ rem binary64 x TAU ⌝ }
+    requires { ⌜ isFinite x ≡ true ⌝ }
+    ensures left { λ r. ⌜ r ≡ rem binary64 x TAU ⌝ }
+    ensures within { λ r. ⌜ lt (abs r) TAU ≡ true ⌝ }
 {
     if square_root::signs::abs(x) < TAU {
         x
@@ -71,34 +74,36 @@ fn within_turn(x: f64) -> f64
     }
 }
 
-// What is left of an angle within a turn, the whole number of quarter turns nearest to it, and that
-// number mod 4.
-struct Reduced {
-    pub y: f64,
+// The size of a finite number: abs without its test for a NaN, which the processor would wait for.
+fn size(q: f64) -> f64
+    requires { ⌜ isFinite q ≡ true ⌝ }
+    ensures { λ r. ⌜ r ≡ abs q ⌝ }
+{
+    f64::from_bits(f64::to_bits(q) % 0x8000_0000_0000_0000)
+}
+
+// The whole number of quarter turns nearest to an angle within a turn, and that number mod 4.
+struct Nearest {
     pub n: f64,
     pub quarter: u64,
 }
 
 // n's sign comes by 0.0 - w, not -w: a whole number has no -0.
-fn reduction(x: f64) -> Reduced
-    requires { ⌜ isFinite x ≡ true ⌝ }
-    ensures { λ r. ⌜ (r .y ≡ rem binary64 x TAU)
-        × (r .n ≡ wholeFloat ieee (roundℤ (mul binary64 (r .y) FRAC-2-PI)))
-        × (r .quarter ≡ modulo4 (roundℤ (mul binary64 (r .y) FRAC-2-PI))) ⌝ }
+fn quarters(y: f64) -> Nearest
+    requires { ⌜ lt (abs y) TAU ≡ true ⌝ }
+    ensures n_is { λ r. ⌜ r .n ≡ wholeFloat ieee (roundℤ (mul binary64 y FRAC-2-PI)) ⌝ }
+    ensures quarter_is { λ r. ⌜ r .quarter ≡ modulo4 (roundℤ (mul binary64 y FRAC-2-PI)) ⌝ }
 {
-    let y = within_turn(x);
     let q = y * FRAC_2_PI;
-    let k = crate::whole::nearest_size(square_root::signs::abs(q));
+    let k = crate::whole::nearest_size(size(q));
     let w = k as f64;
     if q < 0.0 {
-        Reduced {
-            y: y,
+        Nearest {
             n: 0.0 - w,
             quarter: (4 - k % 4) % 4,
         }
     } else {
-        Reduced {
-            y: y,
+        Nearest {
             n: w,
             quarter: k % 4,
         }
@@ -135,18 +140,20 @@ fn cosine_series(z: f64) -> f64
     p
 }
 
-// What is left of the argument after n quarter turns.
+// What is left of an angle after n quarter turns.
 struct Angle {
     r: f64,
     quarter: u64,
 }
 
-fn to_quarter(x: f64) -> Angle
-    requires { ⌜ isFinite x ≡ true ⌝ }
-    ensures { λ t. ⌜ sinCosReduced ieee (t .quarter) (t .r) ≡ sinCos ieee x ⌝ }
+// Of an angle within a turn. The turns are taken off by each caller and not in here, since this is
+// to be small enough for the compiler to put it into the callers: a call costs 2 ns.
+fn to_quarter(y: f64) -> Angle
+    requires { ⌜ lt (abs y) TAU ≡ true ⌝ }
+    ensures { λ t. ⌜ sinCosReduced ieee (t .quarter) (t .r) ≡ sinCos ieee y ⌝ }
 {
-    let t = reduction(x);
-    let r = (t.y - t.n * FRAC_PI_2) - t.n * PI_2_REST;
+    let t = quarters(y);
+    let r = (y - t.n * FRAC_PI_2) - t.n * PI_2_REST;
     Angle {
         r,
         quarter: t.quarter,
@@ -223,7 +230,7 @@ pub fn sin_inside(x: f64) -> f64
     if !answer::is_finite(x) {
         return 0.0 / 0.0;
     }
-    let t = to_quarter(x);
+    let t = to_quarter(within_turn(x));
     sin_at(t.quarter, t.r)
 }
 
@@ -235,7 +242,7 @@ pub fn cos_inside(x: f64) -> f64
     if !answer::is_finite(x) {
         return 0.0 / 0.0;
     }
-    let t = to_quarter(x);
+    let t = to_quarter(within_turn(x));
     cos_at(t.quarter, t.r)
 }
 
@@ -248,7 +255,7 @@ pub fn sin_cos_inside(x: f64) -> SinCos
         let nan = 0.0 / 0.0;
         return SinCos { sin: nan, cos: nan };
     }
-    let t = to_quarter(x);
+    let t = to_quarter(within_turn(x));
     sin_cos_at(t.quarter, t.r)
 }
 

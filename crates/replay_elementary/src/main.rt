@@ -1,5 +1,5 @@
-// Reads the oracle's list (oracle/README.md) from standard input, asks crates square_root and elementary at each stored
-// argument, and compares the answers bit for bit. It writes a line for each function: how many answers were compared, and
+// Reads the oracle's list (oracle/README.md) from standard input, asks crates square_root, remainder and elementary at each
+// stored argument, and compares the answers bit for bit. It writes a line for each function: how many answers were compared, and
 // how many differ. It shows the first three records of each function that differ, and says so where the list is
 // malformed.
 use elementary::sine::SinCosAnswer;
@@ -37,10 +37,11 @@ fn outcome(number: u8, words: &[u8; 96]) -> Outcome {
         9 => one(elementary::arctangent::core(x)),
         10 => one(elementary::arctangent::atan(x)),
         11 => one(elementary::arctangent::atan2(x, argument(words, 1))),
-        _ => match sin_cos(x) {
+        12 => match sin_cos(x) {
             SinCosAnswer::Value(both) => two(both.sin, both.cos),
             SinCosAnswer::Outside => refused(19),
         },
+        _ => one(remainder::remainder(x, argument(words, 1))),
     }
 }
 
@@ -72,13 +73,13 @@ fn run(names: &[u8], takes: &[u8]) {
     if left == 0 {
         report::too_long();
     }
-    report::summaries(names, 12, &compared, &differ);
+    report::summaries(names, 13, &compared, &differ);
 }
 
 // The functions' names and how many arguments each takes, by their numbers, from 1.
 fn main() {
     run(
-        b" abs max_zero floor round sqrt sin cos tan core atan atan2 sin_cos",
-        b"0111111111121",
+        b" abs max_zero floor round sqrt sin cos tan core atan atan2 sin_cos remainder",
+        b"01111111111212",
     );
 }

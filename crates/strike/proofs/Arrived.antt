@@ -12,17 +12,18 @@ use lib.Seq.{length-take-le, take-add, take-append-seam}
 use Rattle.answer.specs.Given.{Given, answered, refused}
 use Rattle.arithmetic.specs.Arith.{ieee}
 use Rattle.origin.specs.Origins.{ORIGINS}
+use Rattle.set.specs.Open.{openGiven}
 use Rattle.stores.specs.Slots.{put}
 use Rattle.strike_records.specs.Line.{LINE, refusalLine}
 use Rattle.strike_records.specs.Record.{headed}
 use Rattle.strike_records.specs.Results.{Turns}
-use Rattle.strike_records.specs.Session.{Set, setOf, MAX-RECORDS}
+use Rattle.strike_records.specs.Session.{Set, setOf, opened, MAX-RECORDS}
 use Rattle.strike_records.specs.Pieces.{Fed, still, answerable, recordsFed, fed, endLine, fitting, beginStage}
 use Rattle.strike_records.specs.declared.session.Stage.{Stage}
 use Rattle.strike_records.specs.declared.session.Stage.the-variants.{Header, Records, Stopped}
 use Rattle.strike_records.specs.declared.session.Turn.{Turn}
 use Rattle.strike_records.proofs.Lines.{set-is}
-use Rattle.strike.specs.Steps.{State, Begins, stateOf, given, next, Read, Ended}
+use Rattle.strike.specs.Steps.{State, Begins, stateOf, begun, given, next, Read, Ended}
 
 -- the bytes that a read put behind the kept ones
 abbrev pub arrived : ℕ → ℕ → List ℕ → List ℕ
@@ -111,22 +112,35 @@ begins stage given e = subst Begins (sym e) (by given)
     by (answered u) = tt
     by (refused n) = tt
 
+-- a session from where open left it is one from the set as it was
+module _ (frame face sphere frame₁ face₁ sphere₁ : List Float) (buffer before before₁ : List ℕ) (stage : Stage) where
+  abbrev held : Set
+  held = setOf frame face sphere
+
+  pub from-open : stage ≡ beginStage (openGiven ieee ORIGINS frame face sphere) → frame₁ ≡ opened ieee ORIGINS held .frame
+      → face₁ ≡ opened ieee ORIGINS held .face → sphere₁ ≡ opened ieee ORIGINS held .sphere → length before₁ ≡ length before
+      → (space : ℕ) (last : State) (written : ℕ) (out : List ℕ) → Ended space (length before₁) (stateOf stage 0 frame₁ face₁ sphere₁ buffer) last written out
+      → Ended space (length before) (begun held) last written out
+  from-open e f g h l space last written out ends =
+      let is : stateOf stage 0 frame₁ face₁ sphere₁ buffer ≡ begun held = rw (e, f, g, h) refl in
+      subst (λ (s : State). Ended space (length before) s last written out) is
+      (subst (λ (n : ℕ). Ended space n (stateOf stage 0 frame₁ face₁ sphere₁ buffer) last written out) l ends)
+
 fitting-whole : (room : ℕ) (line : List ℕ) → LINE ≤ room → fitting room line ≡ line
 unfolding fitting
 fitting-whole room line h = rw (le-ltb room LINE h, fitting)
 
 -- with room for a line, the last line is the one that the input's end gives
-pub ended : (room written kept : ℕ) (s last : State) (before out : List ℕ) → LINE ≤ length before → length (last .kept) ≡ kept → Read room s last
+pub ended : (space room written kept : ℕ) (s last : State) (before out : List ℕ) → LINE ≤ length before → length (last .kept) ≡ kept → Read space room s last
     → written ≡ length (fitting (length before) (endLine (last .stage) kept))
-    → out ≡ put before 0 (fitting (length before) (endLine (last .stage) kept)) → Ended room s written out
-ended room written kept s last before out roomy k r w o =
+    → out ≡ put before 0 (fitting (length before) (endLine (last .stage) kept)) → Ended space room s last written out
+ended space room written kept s last before out roomy k r w o =
     let line = endLine (last .stage) (length (last .kept)) in
     let fits : fitting (length before) (endLine (last .stage) kept) ≡ line =
     fitting-whole (length before) (endLine (last .stage) kept) roomy
     ∙ ap (endLine (last .stage)) (sym k) in
     let is : written ≡ length line = w ∙ ap length fits in
     record {
-      last = last;
       read = r;
       written-is = is;
       line-is = ap (λ (n : ℕ). take n out) is ∙ ap (take (length line)) (o ∙ ap (put before 0) fits) ∙ put-start before line;

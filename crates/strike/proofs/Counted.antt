@@ -18,7 +18,7 @@ use Rattle.strike_records.specs.Pieces.{Fed, still, answerable, recordsFed, fed
 use Rattle.strike_records.specs.declared.session.Stage.{Stage}
 use Rattle.strike_records.specs.declared.session.Stage.the-variants.{Header, Records, Stopped}
 use Rattle.strike_records.proofs.Cutting.{Settled, settled-next}
-use Rattle.strike.specs.Steps.{State, Begins, next, Stepped, rests, goes-on, stops, Read, more, failed}
+use Rattle.strike.specs.Steps.{State, Begins, next, Stepped, rests, feeds, Read, more}
 
 -- the bytes that a session can still take, those that are kept among them, and one read more for the step that ends it
 abbrev Lasts : ℕ → Stage → ℕ → Type 0
@@ -98,16 +98,15 @@ counted-first (Records n) b = absurd b
 counted-first Stopped b = (tt, omega arith)
 
 -- a step more
-pub read-on : (room space : ℕ) (s t u : State) (before out : List ℕ) (ended : Bool) → length before ≡ room → Read room s t → Stepped space t u before out ended
-    → Read room s u
-read-on room space s t u before out ended l r (rests e o) = subst (Read room s) (sym e) r
-read-on room space s t u before out ended l r (goes-on p f m v e o) =
-    subst (Read room s) (sym (e ∙ ap (λ (n : ℕ). next n t p) l)) (more r p f v)
-read-on room space s t u before out ended l r (stops p f m v e o) = failed e
+module _ (room space : ℕ) (s t u : State) (before out : List ℕ) (same : length before ≡ room) where
+  pub read-on : (ended lost : Bool) → Read space room s t → Stepped space t u before out ended lost → Read space room s u
+  read-on ended lost r (rests e o) = subst (Read space room s) (sym e) r
+  read-on ended lost r (feeds p f m v e o l) = subst (Read space room s) (sym (e ∙ ap (λ (n : ℕ). next n t p) same)) (more r p f m v)
 
-pub counted-on : (reads space : ℕ) (t u : State) (before out : List ℕ) (ended : Bool) → (space / 10 + 1) * LINE ≤ length before
-    → Stepped space t u before out ended → ended ≡ false → Counted reads (t .stage) (length (t .kept)) → Counted (reads - 1) (u .stage) (length (u .kept))
-counted-on reads space t u before out ended l (rests e o) z c = absurd (true≢false z)
-counted-on reads space t u before out ended l (stops p f m v e o) z c = absurd (true≢false z)
-counted-on reads space t u before out ended l (goes-on p f m v e o) z c =
-    subst (λ (w : State). Counted (reads - 1) (w .stage) (length (w .kept))) (sym e) (counted-next reads (length before) t p f (omega arith) v c)
+module _ (reads space : ℕ) (t u : State) (before out : List ℕ) (roomy : (space / 10 + 1) * LINE ≤ length before) where
+  pub counted-on : (ended lost : Bool) → Stepped space t u before out ended lost → ended ≡ false → Counted reads (t .stage) (length (t .kept))
+      → Counted (reads - 1) (u .stage) (length (u .kept))
+  counted-on ended lost (rests e o) z c = absurd (true≢false z)
+  counted-on ended lost (feeds p f m v e o l) z c =
+      subst (λ (w : State). Counted (reads - 1) (w .stage) (length (w .kept))) (sym e)
+      (counted-next reads (length before) t p f (omega arith) v c)

@@ -7,10 +7,11 @@ use lib.Ieee.{Float}
 use lib.ListN.{length, take, drop}
 use Rattle.arithmetic.specs.Arith.{ieee}
 use Rattle.origin.specs.Origins.{ORIGINS}
+use Rattle.set.specs.Open.{openGiven}
 use Rattle.stores.specs.Slots.{put}
 use Rattle.strike_records.specs.Line.{LINE}
-use Rattle.strike_records.specs.Session.{Set, setOf}
-use Rattle.strike_records.specs.Pieces.{Fed, fed, endLine, over}
+use Rattle.strike_records.specs.Session.{Set, setOf, opened, program}
+use Rattle.strike_records.specs.Pieces.{Fed, fed, endLine, over, beginStage, beginLine}
 use Rattle.strike_records.specs.declared.session.Stage.{Stage}
 use Rattle.strike_records.specs.declared.session.Stage.the-variants.{Header, Records, Stopped}
 
@@ -44,26 +45,52 @@ next room s arrived =
 abbrev pub Roomy : List ℕ → List ℕ → Type 0
 Roomy buffer out = (10 ≤ length buffer) × ((length buffer / 10 + 1) * LINE ≤ length out)
 
--- One step from s to t, and whether the program ends by it. The buffer holds so many bytes; `before` and `out` are the buffer for lines.
-pub data Stepped (space : ℕ) (s t : State) (before out : List ℕ) : Bool → Type 0 where
+-- One step from s to t; whether the program ends by it, and whether lines are lost because a write failed. The buffer holds so many bytes;
+-- `before` and `out` are the buffer for lines.
+pub data Stepped (space : ℕ) (s t : State) (before out : List ℕ) : Bool → Bool → Type 0 where
   -- the session was over, or a read brought nothing: all is as it was
-  rests : t ≡ s → out ≡ before → Stepped space s t before out true
-  -- some bytes arrived, were fed, and their lines were written
-  goes-on : (arrived : List ℕ) → 0 < length arrived → length arrived ≤ space → over (s .stage) ≡ false → t ≡ next (length before) s arrived
-      → out ≡ put before 0 (given (length before) s arrived .lines) → Stepped space s t before out false
-  -- the same, but the write failed: there is no further line
-  stops : (arrived : List ℕ) → 0 < length arrived → length arrived ≤ space → over (s .stage) ≡ false → t .stage ≡ Stopped
-      → out ≡ put before 0 (given (length before) s arrived .lines) → Stepped space s t before out true
+  rests : t ≡ s → out ≡ before → Stepped space s t before out true false
+  -- some bytes arrived and were fed; the program ends by that exactly if their lines were not all written
+  feeds : (arrived : List ℕ) → 0 < length arrived → length arrived ≤ space → over (s .stage) ≡ false → t ≡ next (length before) s arrived
+      → out ≡ put before 0 (given (length before) s arrived .lines) → (lost : Bool) → Stepped space s t before out lost lost
 
--- All steps, from s to t: pieces arrived one after the other, some bytes each, and none after the session was over; or a write failed.
-pub data Read (room : ℕ) (s : State) : State → Type 0 where
-  none : Read room s s
-  more : {t : State} → Read room s t → (arrived : List ℕ) → 0 < length arrived → over (t .stage) ≡ false → Read room s (next room t arrived)
-  failed : {t : State} → t .stage ≡ Stopped → Read room s t
+-- All steps, from s to t: pieces arrived one after the other, some bytes each and no more than the buffer holds, and none after the session was over.
+pub data Read (space room : ℕ) (s : State) : State → Type 0 where
+  none : Read space room s s
+  more : {t : State} → Read space room s t → (arrived : List ℕ) → 0 < length arrived → length arrived ≤ space → over (t .stage) ≡ false
+      → Read space room s (next room t arrived)
 
--- The session's end: the line that the input's end gives where the session stands after all reads, at the start of the buffer for lines.
-pub record Ended (room : ℕ) (s : State) (written : ℕ) (out : List ℕ) : Type 0 where
-  pub last : State
-  pub read : Read room s last
+-- The session's end, at `last` after all reads: the line that the input's end gives there stands at the start of the buffer for lines.
+pub record Ended (space room : ℕ) (s last : State) (written : ℕ) (out : List ℕ) : Type 0 where
+  pub read : Read space room s last
   pub written-is : written ≡ length (endLine (last .stage) (length (last .kept)))
   pub line-is : take written out ≡ endLine (last .stage) (length (last .kept))
+
+-- where a session begins on a set that held anything: what open gives, the set after it, and no bytes
+abbrev pub begun : Set → State
+begun s =
+    record {
+      stage = beginStage (openGiven ieee ORIGINS (s .frame) (s .face) (s .sphere));
+      set = opened ieee ORIGINS s;
+      kept = [];
+    }
+
+-- ---- all reads together
+
+module _ {space room : ℕ} {s : State} where
+  -- all bytes that arrived
+  abbrev pub bytesOf : {t : State} → Read space room s t → List ℕ
+  bytesOf none = []
+  bytesOf (more r arrived some fits on) = bytesOf r ++ arrived
+
+  -- all lines that were given for them
+  abbrev pub linesOf : {t : State} → Read space room s t → List ℕ
+  linesOf none = []
+  linesOf (more {t} r arrived some fits on) = linesOf r ++ given room t arrived .lines
+
+-- However the input arrived: open's line, the lines of all steps and the last line, one after the other, are document 01's for the bytes that arrived.
+abbrev pub WholeSession : Type 0
+WholeSession =
+    (space room : ℕ) (s : Set) (t : State) → (space / 10 + 1) * LINE ≤ room → (r : Read space room (begun s) t)
+    → beginLine (openGiven ieee ORIGINS (s .frame) (s .face) (s .sphere)) ++ (linesOf r ++ endLine (t .stage) (length (t .kept)))
+    ≡ program ieee ORIGINS s (bytesOf r)

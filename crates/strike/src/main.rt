@@ -13,14 +13,16 @@ ghost use mathlib.Core.Bool.{true, false};
 ghost use Prim.Native.Nat.{_+_, _≤_, _<_};
 ghost use lib.ListN.{length, take};
 ghost use Rattle.strike_records.specs.Pieces.{over};
-ghost use Rattle.strike.specs.Steps.{Begins, Roomy, stateOf, Stepped, Read, Ended};
+ghost use Rattle.strike_records.specs.Session.{setOf};
+ghost use Rattle.strike.specs.Steps.{Begins, Roomy, stateOf, begun, Stepped, Read, Ended};
 
-// Between two reads: where the session stands, how many bytes of the buffer were not taken, and
-// whether nothing more is read.
+// Between two reads: where the session stands, how many bytes of the buffer were not taken, whether
+// nothing more is read, and whether lines are lost because a write failed.
 struct Standing {
     stage: Stage,
     kept: usize,
     ended: bool,
+    lost: bool,
 }
 
 // How many bytes a read brought; none at the input's end, since there is room for some.
@@ -51,11 +53,11 @@ fn step(
     out: &mut [u8],
 ) -> Standing
     requires { ⌜ (over (at .stage) ≡ false → at .kept < length (now buffer)) × (at .kept ≤ length (now buffer)) ⌝ }
-    ensures { λ r. ⌜ Stepped (length (now (buffer .entry)))
+    ensures stepped { λ r. ⌜ Stepped (length (now (buffer .entry)))
         (stateOf (at .stage) (at .kept) (now (frame .entry)) (now (face .entry)) (now (sphere .entry)) (now (buffer .entry)))
         (stateOf (r .stage) (r .kept) (now (frame .entry)) (now (face .exit)) (now (sphere .exit)) (now (buffer .exit)))
-        (now (out .entry)) (now (out .exit)) (r .ended) ⌝ }
-    ensures { λ r. ⌜ r .kept ≤ length (now (buffer .exit)) ⌝ }
+        (now (out .entry)) (now (out .exit)) (r .ended) (r .lost) ⌝ }
+    ensures held { λ r. ⌜ r .kept ≤ length (now (buffer .exit)) ⌝ }
 {
     let stage = at.stage;
     let kept = at.kept;
@@ -64,6 +66,7 @@ fn step(
             stage,
             kept,
             ended: true,
+            lost: false,
         };
     }
     let n = read_behind(buffer, kept);
@@ -72,21 +75,17 @@ fn step(
             stage,
             kept,
             ended: true,
+            lost: false,
         };
     }
     let turn = feed_buffer(stage, frame, face, sphere, buffer, kept + n, out);
-    if !io::write_all(STDOUT_FILENO, &out[..turn.written]) {
-        return Standing {
-            stage: Stage::Stopped,
-            kept: 0,
-            ended: true,
-        };
-    }
+    let lost = !io::write_all(STDOUT_FILENO, &out[..turn.written]);
     let next = turn.stage;
     Standing {
         stage: next,
         kept: turn.kept,
-        ended: false,
+        ended: lost,
+        lost,
     }
 }
 
@@ -102,16 +101,17 @@ fn read_all(
     out: &mut [u8],
 ) -> Standing
     requires { ⌜ Begins stage × Roomy (now buffer) (now out) ⌝ }
-    ensures { λ r. ⌜ r .ended ≡ true ⌝ }
-    ensures { λ r. ⌜ Read (length (now (out .entry)))
+    ensures ended { λ r. ⌜ r .ended ≡ true ⌝ }
+    ensures read { λ r. ⌜ Read (length (now (buffer .entry))) (length (now (out .entry)))
         (stateOf stage 0 (now (frame .entry)) (now (face .entry)) (now (sphere .entry)) (now (buffer .entry)))
         (stateOf (r .stage) (r .kept) (now (frame .entry)) (now (face .exit)) (now (sphere .exit)) (now (buffer .exit))) ⌝ }
-    ensures { λ r. ⌜ r .kept ≤ length (now (buffer .exit)) ⌝ }
+    ensures held { λ r. ⌜ r .kept ≤ length (now (buffer .exit)) ⌝ }
 {
     let mut at = Standing {
         stage,
         kept: 0,
         ended: false,
+        lost: false,
     };
     let mut reads: u64 = 42_949_672_960;
     while reads > 0 && !at.ended {
@@ -121,7 +121,16 @@ fn read_all(
     at
 }
 
-// All reads, and behind them the last line, if there is one: how many bytes it has.
+// A session behind all its reads: where it stands, how many bytes of the buffer were not taken, how
+// many bytes its last line has, and whether lines before it are lost.
+struct Last {
+    stage: Stage,
+    kept: usize,
+    written: usize,
+    lost: bool,
+}
+
+// All reads, and behind them the last line, if there is one.
 fn answer_all(
     stage: Stage,
     frame: &[f64],
@@ -129,26 +138,48 @@ fn answer_all(
     sphere: &mut [f64],
     buffer: &mut [u8],
     out: &mut [u8],
-) -> usize
+) -> Last
     requires { ⌜ Begins stage × Roomy (now buffer) (now out) ⌝ }
-    ensures { λ r. ⌜ Ended (length (now (out .entry)))
-        (stateOf stage 0 (now (frame .entry)) (now (face .entry)) (now (sphere .entry)) (now (buffer .entry))) r (now (out .exit)) ⌝ }
-    ensures { λ r. ⌜ r ≤ length (now (out .exit)) ⌝ }
+    ensures ends { λ r. ⌜ Ended (length (now (buffer .entry))) (length (now (out .entry)))
+        (stateOf stage 0 (now (frame .entry)) (now (face .entry)) (now (sphere .entry)) (now (buffer .entry)))
+        (stateOf (r .stage) (r .kept) (now (frame .entry)) (now (face .exit)) (now (sphere .exit)) (now (buffer .exit)))
+        (r .written) (now (out .exit)) ⌝ }
+    ensures held { λ r. ⌜ r .written ≤ length (now (out .exit)) ⌝ }
 {
     let at = read_all(stage, frame, face, sphere, buffer, out);
     let last = at.stage;
-    finish(last, at.kept, out)
+    let written = finish(last, at.kept, out);
+    Last {
+        stage: last,
+        kept: at.kept,
+        written,
+        lost: at.lost,
+    }
 }
 
-fn run(frame: &mut [f64], face: &mut [f64], sphere: &mut [f64], buffer: &mut [u8], out: &mut [u8])
+// A whole session on any set. Where open refuses there is one line, and the session is over: so it does
+// not matter whether that line is written. After a write that failed nothing more is written.
+fn run(
+    frame: &mut [f64],
+    face: &mut [f64],
+    sphere: &mut [f64],
+    buffer: &mut [u8],
+    out: &mut [u8],
+) -> Last
     requires { ⌜ Roomy (now buffer) (now out) ⌝ }
+    ensures { λ r. ⌜ Ended (length (now (buffer .entry))) (length (now (out .entry)))
+        (begun (setOf (now (frame .entry)) (now (face .entry)) (now (sphere .entry))))
+        (stateOf (r .stage) (r .kept) (now (frame .exit)) (now (face .exit)) (now (sphere .exit)) (now (buffer .exit)))
+        (r .written) (now (out .exit)) ⌝ }
 {
     let begun = begin(frame, face, sphere, out);
     let stage = begun.stage;
-    if io::write_all(STDOUT_FILENO, &out[..begun.written]) {
-        let written = answer_all(stage, frame, face, sphere, buffer, out);
-        io::write_all(STDOUT_FILENO, &out[..written]);
+    io::write_all(STDOUT_FILENO, &out[..begun.written]);
+    let last = answer_all(stage, frame, face, sphere, buffer, out);
+    if !last.lost {
+        io::write_all(STDOUT_FILENO, &out[..last.written]);
     }
+    last
 }
 
 // The buffer's 65,536 bytes hold at most 6,553 whole records; here is room for 6,554 lines.

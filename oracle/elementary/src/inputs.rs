@@ -195,6 +195,43 @@ pub fn points(g: &mut Generator) -> Vec<(f64, f64)> {
     list
 }
 
+// For remainder: the pairs (x, y). Quotients of every size, from below 1 to 2^2045.
+pub fn divisions(g: &mut Generator) -> Vec<(f64, f64)> {
+    let mut list = special_pairs();
+    for apart in 0..2046 {
+        let field = g.whole(1, 2047 - apart);
+        let y = g.with_field(field, field + 1);
+        list.push((g.with_field(field + apart, field + apart + 1), y));
+    }
+    for _ in 0..100 {
+        list.extend(level(g));
+        list.extend(multiple(g));
+    }
+    for divisor in [TAU, 360.0, 10.0] {
+        for k in 1..=12 {
+            let xs = both_signs(&near(k as f64 * divisor));
+            list.extend(xs.iter().map(|x| (*x, divisor)));
+        }
+    }
+    for _ in 0..100 {
+        list.push((g.subnormal(), g.subnormal()));
+        list.push((g.subnormal(), g.any()));
+        list.push((g.any(), g.subnormal()));
+        list.push((g.any(), g.any()));
+    }
+    list
+}
+
+// A multiple of a number of 26 bits, which is exact, and its neighbours.
+fn multiple(g: &mut Generator) -> [(f64, f64); 5] {
+    let power = f64::from_bits((g.whole(1, 1990) as u64) << 52);
+    let y = g.whole(1, 1 << 26) as f64 * power;
+    let width = g.whole(1, 27);
+    let x = g.whole(1, 1 << width) as f64 * y;
+    let x = if g.whole(0, 2) == 0 { x } else { -x };
+    near(x).map(|x| (x, y))
+}
+
 // Zeros, infinities and NaNs in each place among them.
 fn special_pairs() -> Vec<(f64, f64)> {
     let mut few = vec![0.0, f64::from_bits(1), f64::MIN_POSITIVE, 0.5, 1.0];

@@ -57,6 +57,10 @@ fn answers() -> List {
         list.answered(11, &[y, x], &[steps::atan2(y, x)]);
     }
     angle_records(&mut list, 12, both, &angles);
+    // the Rust's own: there is no step for it
+    for (x, y) in inputs::divisions(&mut Generator::new(13)) {
+        list.answered(13, &[x, y], &[x % y]);
+    }
     list
 }
 

@@ -91,6 +91,51 @@ fn to_the_limit(g: &mut Generator) {
     }
 }
 
+// A finite value's size in digits and places: digits * 2^(places - 1074).
+fn digits(x: f64) -> (u64, u64) {
+    let bits = x.abs().to_bits();
+    let (field, rest) = (bits >> 52, bits % (1 << 52));
+    if field == 0 {
+        (rest, 0)
+    } else {
+        (rest + (1 << 52), field - 1)
+    }
+}
+
+// Place by place on whole numbers, for finite x and a y that is not 0.
+fn long_division(x: f64, y: f64) -> f64 {
+    let ((mut m, k), (n, j)) = (digits(x), digits(y));
+    if k < j {
+        return x;
+    }
+    m %= n;
+    for _ in j..k {
+        m = 2 * m % n;
+    }
+    // m < 2^53, and m * 2^j is below y
+    let mut left = m as f64 * f64::from_bits(1);
+    for _ in 0..j {
+        left *= 2.0;
+    }
+    left.copysign(x)
+}
+
+// The Rust's `%`, which the list of remainder is made of, against a division by hand.
+fn divisions(g: &mut Generator) {
+    let mut pairs = inputs::divisions(g);
+    pairs.extend((0..20_000).map(|_| (g.any(), g.any())));
+    for (x, y) in pairs {
+        let by_hand = if !x.is_finite() || y.is_nan() || y == 0.0 {
+            f64::NAN
+        } else if y.is_infinite() {
+            x
+        } else {
+            long_division(x, y)
+        };
+        exact("remainder", x, by_hand, x % y);
+    }
+}
+
 fn marked_points() {
     exact("sqrt", 4.0, steps::sqrt(4.0), 2.0);
     exact(
@@ -118,4 +163,5 @@ pub fn run() {
     exact_ones(&mut g);
     close_ones(&mut g);
     to_the_limit(&mut g);
+    divisions(&mut g);
 }

@@ -36,7 +36,7 @@ returns c =
     let last = stateOf (q .result .stage) (q .result .kept) (a .frame .now) (q .last .1 .1 .0) (q .last .1 .1 .1 .0) buffer in
     let before = q .last .1 .1 .1 .1 .1 .0 in
     let roomy : LINE ≤ length before = omega (arith, s .pre .1 .1, q .kept .1 .1 .1 .1 .1 .0) in (
-      ended (length (a .out .now)) (f .finish .result) (q .result .kept) first last before (f .finish .last .1 .1 .0) roomy
+      ended (length (a .buffer .now)) (length (a .out .now)) (f .finish .result) (q .result .kept) first last before (f .finish .last .1 .1 .0) roomy
           (length-take-le (q .result .kept) buffer (q .ensures .1 .1)) (q .ensures .1 .0) (f .finish .ensures .0) (f .finish .ensures .1 .0),
       omega (arith, f .finish .ensures .1 .1, f .finish .kept .1 .1 .0),
     )

@@ -23,7 +23,7 @@ Inv-loop frame face₀ sphere₀ buffer₀ out₀ at₀ reads₀ face sphere buf
     × (length buffer ≡ length buffer₀)
     × (length out ≡ length out₀)
     × (at .kept ≤ length buffer)
-    × Read (length out₀) (stateOf (at₀ .stage) 0 frame face₀ sphere₀ buffer₀) (stateOf (at .stage) (at .kept) frame face sphere buffer)
+    × Read (length buffer₀) (length out₀) (stateOf (at₀ .stage) 0 frame face₀ sphere₀ buffer₀) (stateOf (at .stage) (at .kept) frame face sphere buffer)
     × (at .ended ≡ false → Counted reads (at .stage) (at .kept))
 
 abbrev μ-loop : tie.MeasureT-loop
@@ -85,7 +85,7 @@ module _ (c : tie.After-step Inv-loop μ-loop) where
       let lasting = subst (Counted (i .reads) (i .at .stage)) (sym (length-take-le (i .at .kept) (i .buffer) (i .inv .4))) (lasts (going (c .before))) in
       let roomy : (length (i .buffer) / 10 + 1) * LINE ≤ length (i .out) = omega (arith, start l .pre .1 .1, i .inv .2, i .inv .3) in
       subst (Counted (i .reads - 1) (r .result .stage)) (length-take-le (r .result .kept) (r .last .1 .1 .1 .1 .0) (r .ensures .1))
-      (counted-on (i .reads) (length (i .buffer)) t u (i .out) out (r .result .ended) roomy (r .ensures .0) e lasting)
+      (counted-on (i .reads) (length (i .buffer)) t u (i .out) out roomy (r .result .ended) (r .result .lost) (r .ensures .0) e lasting)
 
 loop-again : tie.Need-loop-again Inv-loop μ-loop
 loop-again c =
@@ -99,8 +99,8 @@ loop-again c =
       k .1 .1 .0 ∙ i .inv .2,
       k .1 .1 .1 .0 ∙ i .inv .3,
       q .step .ensures .1,
-      read-on (length (a .out .now)) (length (i .buffer)) first (t q) (u q) (i .out) (out q) (q .step .result .ended)
-          (i .inv .3) (i .inv .5) (q .step .ensures .0),
+      read-on (length (a .out .now)) (length (a .buffer .now)) first (t q) (u q) (i .out) (out q) (i .inv .3)
+          (q .step .result .ended) (q .step .result .lost) (i .inv .5) (rw (sym (i .inv .2)) (q .step .ensures .0)),
       counted q,
     )
 

@@ -1,14 +1,14 @@
--- `strike::step` meets its contract. Assumes nothing.
+-- `strike::step` meets its contract: it rests, or feeds what arrived, and then the standing is what feeding gives. Assumes nothing.
 use mathlib.Core.Path.{_≡_, refl, sym, ap, _∙_}
 use mathlib.Core.Bool.{false}
 use mathlib.Core.List.{List}
-use Prim.Native.Nat.{ℕ, _≤_, _<_, zero-le}
+use Prim.Native.Nat.{ℕ, _≤_, _<_}
 use borrow.Author.Needs.{needs}
 use native.Mathlib.Omega.{arith}
 use lib.ListN.{length, take}
 use lib.Seq.{length-take-le}
 use Rattle.strike_records.specs.Pieces.{over}
-use Rattle.strike.specs.Steps.{stateOf, rests, goes-on, stops}
+use Rattle.strike.specs.Steps.{rests, feeds}
 use Rattle.strike.proofs.Arrived.{arrived, arrived-length, next-is, lines-are}
 use Rattle.strike.proofs.step.Statement.{statement}
 use Rattle.strike.proofs.step.Tie as tie
@@ -77,29 +77,23 @@ module _ (c : tie.After-feed-buffer) where
 
 returns-3 : tie.Need-returns-3
 returns-3 c =
-    let f = fed (c .before) in
+    let f = fed c in
     let t = f .feed-buffer in
     let a = s f .args in
-    let b = r f .read-behind in (
-      stops (piece f) (filled f) (within f) (goes (from (r f))) refl
-          (lines-are (a .frame .now) (a .face .now) (a .sphere .now) (t .last .1 .1 .0) (t .last .1 .1 .1 .0) (a .at .stage) (a .at .kept) (b .result)
-          (a .buffer .now) (b .last .0) (t .last .1 .1 .1 .1 .0) (a .out .now) (t .last .1 .1 .1 .1 .1 .1 .0) (t .result) (b .ensures .1) (t .ensures .0)),
-      zero-le,
-    )
-
-returns-4 : tie.Need-returns-4
-returns-4 c =
-    let f = fed (c .before) in
-    let t = f .feed-buffer in
-    let a = s f .args in
-    let b = r f .read-behind in (
-      goes-on (piece f) (filled f) (within f) (goes (from (r f)))
-          (next-is (a .frame .now) (a .face .now) (a .sphere .now) (t .last .1 .1 .0) (t .last .1 .1 .1 .0) (a .at .stage) (a .at .kept) (b .result)
-          (a .buffer .now) (b .last .0) (t .last .1 .1 .1 .1 .0) (a .out .now) (t .last .1 .1 .1 .1 .1 .1 .0) (t .result) (b .ensures .1) (t .ensures .0))
-          (lines-are (a .frame .now) (a .face .now) (a .sphere .now) (t .last .1 .1 .0) (t .last .1 .1 .1 .0) (a .at .stage) (a .at .kept) (b .result)
-          (a .buffer .now) (b .last .0) (t .last .1 .1 .1 .1 .0) (a .out .now) (t .last .1 .1 .1 .1 .1 .1 .0) (t .result) (b .ensures .1) (t .ensures .0)),
-      buffer-length f,
-    )
+    let b = r f .read-behind in
+    let face = t .last .1 .1 .0 in
+    let sphere = t .last .1 .1 .1 .0 in
+    let buffer = t .last .1 .1 .1 .1 .0 in
+    let out = t .last .1 .1 .1 .1 .1 .1 .0 in
+    let same = b .ensures .1 in
+    let turns = t .ensures .0 in
+    let is =
+    next-is (a .frame .now) (a .face .now) (a .sphere .now) face sphere (a .at .stage) (a .at .kept) (b .result)
+    (a .buffer .now) (b .last .0) buffer (a .out .now) out (t .result) same turns in
+    let lines =
+    lines-are (a .frame .now) (a .face .now) (a .sphere .now) face sphere (a .at .stage) (a .at .kept) (b .result)
+    (a .buffer .now) (b .last .0) buffer (a .out .now) out (t .result) same turns in
+    (feeds (piece f) (filled f) (within f) (goes (from (r f))) is lines _, buffer-length f)
 
 pub step-spec : {M : Type 1} → statement M
 step-spec =
@@ -119,9 +113,4 @@ step-spec =
     (λ c. search needs)
     (λ c. search needs)
     (λ c. search needs)
-    returns-3
-    (λ c. search needs)
-    (λ c. search needs)
-    (λ c. search needs)
-    (λ c. search needs)
-    returns-4)
+    returns-3)

@@ -15,7 +15,10 @@ returns-3 : tie.Need-returns-3
 returns-3 c = rw (after-2 _ _ (c .before .if3 .taken)) (ap neg (c .sine-series2 .ensures))
 
 returns-4 : tie.Need-returns-4
-returns-4 c = rw (after-3 _ _ (c .before .before .before .if1 .left) (c .before .before .if2 .left) (c .before .if3 .left)) (ap neg (c .cosine-series2 .ensures))
+returns-4 c =
+    let third = c .before in
+    let second = third .before in
+    rw (after-3 _ _ (second .before .if1 .left) (second .if2 .left) (third .if3 .left)) (ap neg (c .cosine-series2 .ensures))
 
 pub sin-at-spec : {M : Type 1} → statement M
 sin-at-spec = tie.close (tie.spec (λ c κs. tt) (λ c κs. tt) (λ c κs. tt) (λ c κs. tt) returns returns-2 returns-3 returns-4)

@@ -1,0 +1,2 @@
+-- What the C functions hand back. Definitions only.
+pub mod Value
