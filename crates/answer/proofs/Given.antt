@@ -1,5 +1,5 @@
--- From an answer back to the tests before it: where a chain of refusals and calls answered, no test refused and every part answered. And a chain whose first part is
--- known goes on from there. Assumes nothing.
+-- From an answer back to the tests before it: where a chain of refusals and calls answered, no test refused and every part answered.
+-- And a chain whose first part is known goes on from there. Assumes nothing.
 use mathlib.Core.Path.{_≡_, refl, ap}
 use mathlib.Core.Bool.{Bool, true, false}
 use Prim.Native.Nat.{ℕ}

@@ -1,4 +1,4 @@
--- The number that document 01's table gives each refusal, and a check as what it gives. Definitions only.
+-- The number of each refusal (document 01, "Calls and their numbers", and document 02), and what a check gives. Definitions only.
 use Prim.Native.Nat.{ℕ}
 use Rattle.answer.specs.Given.{Given, refused, passed}
 use Rattle.answer.specs.declared.Refusal.{Refusal}
@@ -6,47 +6,48 @@ use Rattle.answer.specs.declared.Refusal.the-variants as refusal
 use Rattle.answer.specs.declared.Check.{Check}
 use Rattle.answer.specs.declared.Check.the-variants as check
 
--- document 01, "Calls and their numbers": the table, row by row; then document 02's
+-- document 01's table, row by row
 abbrev pub numberOf : Refusal → ℕ
--- frame isn't 186 long
+-- "frame isn't 186 long"
 numberOf refusal.FrameLength = 1
--- face store isn't 210 long
+-- "face store isn't 210 long"
 numberOf refusal.FaceStoreLength = 2
--- sphere store isn't 2,400 long
+-- "sphere store isn't 2,400 long"
 numberOf refusal.SphereStoreLength = 3
--- origin id above 11
+-- "origin id above 11"
 numberOf refusal.UnknownOrigin = 4
--- a number is infinite or NaN
+-- "a number is infinite or NaN"
 numberOf refusal.NotFinite = 5
--- a number is outside its range
+-- "a number is outside its range"
 numberOf refusal.OutOfRange = 6
--- open's frame hasn't 62 rows
+-- "open's frame hasn't 62 rows"
 numberOf refusal.FrameRows = 7
--- a triangle that must be built has no frame vertex
+-- "a triangle that must be built has no frame vertex"
 numberOf refusal.NoVertex = 8
--- the answer would have a number that isn't finite
+-- "the answer would have a number that isn't finite"
 numberOf refusal.AnswerNotFinite = 9
--- show: no such slot
+-- "show: slot 30 or more (face), 240 or more (sphere)"
 numberOf refusal.UnknownSlot = 10
--- program: header missing, wrong or short
+-- "program: header missing, wrong or short"
 numberOf refusal.Header = 11
--- program: kind not 1 or 2, or kind 1 with non-zero origin byte
+-- "program: kind not 1 or 2, or kind 1 with non-zero origin byte"
 numberOf refusal.RecordKind = 12
--- program: input ends inside a record
+-- "program: input ends inside a record"
 numberOf refusal.CutOff = 13
--- Paper 5: the minute is earlier than the last accepted one
+-- document 02's, by their papers. Paper 5: "the minute is earlier than the last accepted one"
 numberOf refusal.EarlierMinute = 17
--- Paper 5: 4,096 strikes remain after the drop
+-- Paper 5: "4,096 strikes remain after the drop"
 numberOf refusal.WindowFull = 18
--- Paper 7: inverse and unplace: no corner is returned, and the angle from the area share is finite and beyond ±64
+-- Paper 7: "no corner is returned and that angle is finite and beyond ±64", the angle from the area share in inverse and unplace
 numberOf refusal.AngleOutside = 19
--- turns: not exactly 16 wishes
+-- Paper 12: "not exactly 16 wishes"
 numberOf refusal.WishCount = 24
--- turns: not exactly 16 grant places
+-- Paper 12: "not exactly 16 grant places"
 numberOf refusal.GrantCount = 25
--- Paper 13: the lent page isn't 4,860 bytes
+-- Paper 13: "the lent page isn't 4,860 bytes"
 numberOf refusal.PageLength = 26
 
+-- a check, or a call that carries no value: passed, or the number of its refusal
 abbrev pub givenCheck : Check → Given (Unit {0})
 givenCheck check.Passed = passed
 givenCheck (check.Refused n) = refused (numberOf n)

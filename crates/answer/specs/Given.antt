@@ -1,10 +1,16 @@
--- What a call gives: its answer, or the number of its refusal. A table of refusals is written as it is read: the first that applies. Definitions only.
+-- What a call gives: its answer, or the number of its refusal. A table of refusals is written as it is read: the first that applies.
+-- Definitions only.
 use Prim.Native.Nat.{ℕ}
 use mathlib.Core.Bool.{Bool, true, false}
 
 pub data Given (A : Type 0) : Type 0 where
   answered : A → Given A
   refused : ℕ → Given A
+
+-- 0 for an answer, and the number of a refusal
+abbrev pub status : {A : Type 0} → Given A → ℕ
+status (answered a) = 0
+status (refused n) = n
 
 -- nothing was refused, and there is nothing to carry
 abbrev pub passed : Given (Unit {0})

@@ -1,35 +1,49 @@
 // Refusals and their numbers, and the checks of one number (document 01, "Calls and their numbers"); the bits of a number.
 ghost use mathlib.Core.Path.{_≡_};
 ghost use lib.Ieee.{binary64, toBits};
+ghost use Rattle.answer.specs.Given.{status};
 ghost use Rattle.answer.specs.Answer.{numberOf, givenCheck};
 ghost use Rattle.answer.specs.Number.{isFinite, checkNumber};
 
-// One variant for each number of document 01's table, in its order, and then those that a paper of document 02 adds.
+// Why a call refuses, with its number: those of document 01's table in its order, and then document 02's.
 pub enum Refusal {
+    // 1: the frame isn't 186 numbers
     FrameLength,
+    // 2: the face store isn't 210 numbers
     FaceStoreLength,
+    // 3: the sphere store isn't 2,400 numbers
     SphereStoreLength,
+    // 4: the origin's id is above 11
     UnknownOrigin,
+    // 5: a number is infinite or NaN
     NotFinite,
+    // 6: a number is outside its range
     OutOfRange,
+    // 7: the frame that open makes hasn't 62 rows
     FrameRows,
+    // 8: a triangle that must be built has no vertex in the frame
     NoVertex,
+    // 9: the answer would have a number that isn't finite
     AnswerNotFinite,
+    // 10: show: the store has no such slot
     UnknownSlot,
+    // 11: strike program: the header is missing, wrong or short
     Header,
+    // 12: strike program: the kind isn't 1 or 2, or it is 1 and the origin byte isn't 0
     RecordKind,
+    // 13: strike program: the input ends inside a record
     CutOff,
-    // The minute of a strike is before that of the last one accepted (Paper 5, 17).
+    // 17: window: the minute is earlier than the last accepted one (Paper 5)
     EarlierMinute,
-    // A window has no place left for a strike (Paper 5, 18).
+    // 18: window: 4,096 strikes remain after the drop (Paper 5)
     WindowFull,
-    // Paper 7: inverse and unplace, for a point too far off the face
+    // 19: inverse, unplace: no corner is returned, and the angle from the area share is beyond ±64 (Paper 7)
     AngleOutside,
-    // turns: not exactly 16 wishes
+    // 24: turns: there aren't exactly 16 wishes (Paper 12)
     WishCount,
-    // turns: not exactly 16 grant places
+    // 25: turns: there aren't exactly 16 grant places (Paper 12)
     GrantCount,
-    // A page for the sheet isn't 4,860 bytes (Paper 13, 26).
+    // 26: sheet: the page isn't 4,860 bytes (Paper 13)
     PageLength,
 }
 
@@ -60,10 +74,20 @@ pub fn number(r: Refusal) -> u8
     }
 }
 
-// What a check of arguments comes to.
+// What a check of arguments comes to, and a call whose answer carries no value: passed, or the refusal.
 pub enum Check {
     Passed,
     Refused(Refusal),
+}
+
+// What C is told of a check: 0 where it passed, and otherwise the number of the refusal.
+pub fn status(check: Check) -> u8
+    ensures { λ r. ⌜ r ≡ status (givenCheck check) ⌝ }
+{
+    match check {
+        Check::Passed => 0,
+        Check::Refused(n) => number(n),
+    }
 }
 
 // Neither infinite nor a NaN.

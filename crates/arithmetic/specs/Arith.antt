@@ -1,6 +1,6 @@
--- The arithmetic that definitions are written over: document 01's "each operation rounds once, no fused multiply". Definitions only.
--- A definition takes it as a parameter, so that a fact on closed numbers can be computed in another arithmetic that is proved equal to `ieee` and computes faster
--- (`proofs/Quick`). Contracts cite every definition at `ieee`.
+-- The arithmetic that definitions are written over: document 01's "each operation rounds once, no fused multiply". Definitions only. A
+-- definition takes it as a parameter, so that a fact on closed numbers can be computed in another arithmetic that is proved equal to `ieee`
+-- and computes faster (`proofs/Quick`). Contracts cite every definition at `ieee`.
 use Prim.Native.Nat.{ℕ}
 use mathlib.Core.Bool.{Bool}
 use lib.Ieee.{Float, binary64, round, add, sub, mul, div, rem}

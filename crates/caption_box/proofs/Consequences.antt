@@ -11,7 +11,7 @@ use lib.Ieee.{Float, nan, inf, fin, lt, eq, le}
 use Rattle.answer.specs.Given.{Given, refused, passed}
 use Rattle.arithmetic.proofs.Order.{eq-of-not-lt}
 use Rattle.coordinates.specs.declared.coords.Face.{Face}
-use Rattle.set.specs.Checks.{checkFace}
+use Rattle.coordinates.specs.Conversions.{checkFace}
 use Rattle.caption_box.specs.declared.CaptionBox.{CaptionBox}
 use Rattle.caption_box.specs.Sides.{newBox, below, above, replaced, onePoint, laterPoint, grown, boxAfter, taken}
 use Rattle.caption_box.specs.EveryList.{takenAll, boxOf, TakenIn, xOf, yOf, SameSides}
@@ -51,7 +51,7 @@ module _ (beyond : Float → Float → Bool) where
       by-test false e = rw e
 
 pub taken-twice : (b : CaptionBox) (p : Face) → grown (grown b p) p ≡ grown b p
-unfolding grown
+unfolding grown laterPoint
 taken-twice b p = by-empty (b .empty)
   where
     by-empty : (t : Bool) → grown (cond t (onePoint p) (laterPoint b p)) p ≡ cond t (onePoint p) (laterPoint b p)

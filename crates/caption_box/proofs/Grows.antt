@@ -11,7 +11,7 @@ use Rattle.answer.specs.Given.{Given, answered, refused, passed}
 use Rattle.answer.proofs.Given.{refused-answers-nothing}
 use Rattle.arithmetic.proofs.Order.{lt-irrefl, lt-trans}
 use Rattle.coordinates.specs.declared.coords.Face.{Face}
-use Rattle.set.specs.Checks.{checkFace}
+use Rattle.coordinates.specs.Conversions.{checkFace}
 use Rattle.caption_box.specs.declared.CaptionBox.{CaptionBox}
 use Rattle.caption_box.specs.Sides.{newBox, below, above, replaced, onePoint, laterPoint, grown, boxAfter, taken}
 use Rattle.caption_box.specs.EveryList.{takenAll, grownAll, TakenIn, xOf, yOf, Side, FourSides}
@@ -95,6 +95,7 @@ first-sides p =
     }
 
 later-sides : {In : Face → Type 0} {b : CaptionBox} (p : Face) → FourSides In b → FourSides (λ q. In q ⊎ (q ≡ p)) (laterPoint b p)
+unfolding laterPoint
 later-sides {b = b} p s =
     record {
       least-x = later-side xOf below below-strict p (b .«least_x») (s .least-x);
@@ -105,7 +106,7 @@ later-sides {b = b} p s =
 
 -- one more point
 pub grows : {In : Face → Type 0} {b : CaptionBox} (p : Face) → Holds In b → Holds (λ q. In q ⊎ (q ≡ p)) (grown b p)
-unfolding grown
+unfolding grown laterPoint
 grows p (none e n) = rw e (some refl (sides-told (λ q o. inr o) (λ q. ⊎-elim (λ i. absurd (n q i)) (λ o. o)) (first-sides p)))
 grows p (some e s) = rw e (some refl (later-sides p s))
 

@@ -12,7 +12,7 @@ use Rattle.answer.proofs.Given.{refuse-answered, then-answered}
 use Rattle.arithmetic.specs.Numbers.{4·0}
 use Rattle.arithmetic.proofs.Order.{eq-of-not-lt}
 use Rattle.coordinates.specs.declared.coords.Face.{Face}
-use Rattle.set.specs.Checks.{checkFace}
+use Rattle.coordinates.specs.Conversions.{checkFace}
 use Rattle.caption_box.specs.declared.CaptionBox.{CaptionBox}
 use Rattle.caption_box.specs.Sides.{below, above}
 use Rattle.caption_box.specs.EveryList.{TakenIn, xOf, yOf, Side, FourSides, SameSides}

@@ -6,7 +6,7 @@ use lib.Dec.{T}
 use lib.Ieee.{Float, eq}
 use Rattle.answer.specs.Given.{passed}
 use Rattle.coordinates.specs.declared.coords.Face.{Face}
-use Rattle.set.specs.Checks.{checkFace}
+use Rattle.coordinates.specs.Conversions.{checkFace}
 use Rattle.caption_box.specs.declared.CaptionBox.{CaptionBox}
 use Rattle.caption_box.specs.Sides.{newBox, below, above, grown, taken}
 

@@ -5,7 +5,7 @@ use lib.Ieee.{Float, lt}
 use Rattle.answer.specs.Given.{Given, answered, refused}
 use Rattle.arithmetic.specs.Numbers.{0·0}
 use Rattle.coordinates.specs.declared.coords.Face.{Face}
-use Rattle.set.specs.Checks.{checkFace}
+use Rattle.coordinates.specs.Conversions.{checkFace}
 use Rattle.caption_box.specs.declared.CaptionBox.{CaptionBox}
 
 -- "A new box is empty and its corners mean nothing until the first point." They are +0.0, so that a new box is a value.
@@ -28,7 +28,7 @@ abbrev pub onePoint : Face → CaptionBox
 onePoint p = record { «least_x» = p .0 .x; «greatest_x» = p .0 .x; «least_y» = p .0 .y; «greatest_y» = p .0 .y; empty = false }
 
 -- the box that a later point leaves
-abbrev pub laterPoint : CaptionBox → Face → CaptionBox
+unfoldable pub laterPoint : CaptionBox → Face → CaptionBox
 laterPoint b p =
     record {
       «least_x» = replaced below (b .«least_x») (p .0 .x);

@@ -1,8 +1,8 @@
 // The caption box (document 02, Paper 3): the smallest upright rectangle round the face points taken
 // in so far. The work is done on boxes by value; `take_in`, which is lent a box, is thin.
 use answer::Check;
+use coordinates::conversions::check_face;
 use coordinates::coords::Face;
-use set::checks::check_face;
 ghost use mathlib.Core.Path.{_≡_};
 ghost use Rattle.answer.specs.Answer.{givenCheck};
 ghost use Rattle.caption_box.specs.Sides.{newBox, replaced, below, above, grown, TakesIn};

@@ -4,7 +4,7 @@
 use mathlib.Core.Path.{_≡_, refl, sym, _∙_, ap}
 use mathlib.Core.List.{List, [], _∷_}
 use Prim.Native.Nat.{ℕ, suc}
-use lib.IntN.{ℤ, pos, one, negℤ, _+ℤ_, _-ℤ_, _*ℤ_, +ℤ-comm, +ℤ-idl, +ℤ-idr, zero-*ℤ, *ℤ-zero, *ℤ-one, *ℤ-comm}
+use lib.IntN.{ℤ, pos, one, negℤ, _+ℤ_, _-ℤ_, _*ℤ_, +ℤ-comm, +ℤ-idl, +ℤ-idr, zero-*ℤ, *ℤ-zero, *ℤ-one, *ℤ-comm, pos-ne-negsuc}
 use Rattle.arithmetic.proofs.WholeNumbers.{swap-last, sum-times, difference-times, times-difference, times-assoc}
 use Rattle.coordinates.specs.Authalic.{recurrence}
 use Rattle.coordinates.specs.Series.{term, products, sum, SumOfTerms, rustRecurrence, RustIsNotTheSum}
@@ -93,6 +93,7 @@ rust-sixth-zero x c0 c1 c2 c3 c4 =
 pub rust-is-not-the-sum : RustIsNotTheSum
 unfolding rustRecurrence sum products term
 rust-is-not-the-sum = record {
+  not-the-sum = λ same. pos-ne-negsuc 0 0 (sym (same (pos 1) (pos 0) (pos 0) (pos 0) (pos 0) (pos 0) (pos 1)));
   given = refl;
   wanted = refl;
   multiplier-zero = λ c0 c1 c2 c3 c4 c5. rust-multiplier-zero c0 c1 c2 c3 c4 c5 ∙ sum-of-terms (pos 0) c0 c1 c2 c3 c4 c5;

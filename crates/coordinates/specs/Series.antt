@@ -38,6 +38,8 @@ rustRecurrence x c0 c1 c2 c3 c4 c5 =
 -- They are not that sum. With the multiplier 1 and the coefficients 0, 0, 0, 0, 0, 1 they give −1, and the sum is 0. No smaller numbers show it: where the multiplier
 -- or the sixth coefficient is 0, they are the sum.
 pub record RustIsNotTheSum : Type 0 where
+  pub not-the-sum :
+      ((x c0 c1 c2 c3 c4 c5 : ℤ) → rustRecurrence x c0 c1 c2 c3 c4 c5 ≡ sum (products x 1 (c0 ∷ c1 ∷ c2 ∷ c3 ∷ c4 ∷ c5 ∷ []))) → ⊥
   pub given : rustRecurrence (pos 1) (pos 0) (pos 0) (pos 0) (pos 0) (pos 0) (pos 1) ≡ negsuc 0
   pub wanted : sum (products (pos 1) 1 (pos 0 ∷ pos 0 ∷ pos 0 ∷ pos 0 ∷ pos 0 ∷ pos 1 ∷ [])) ≡ pos 0
   pub multiplier-zero :

@@ -1,5 +1,7 @@
-// The two conversions as calls: what is out of its range is refused with document 01's number.
+// The two conversions as calls, and the checks of positions and face points: what is out of its range
+// is refused with document 01's number.
 use crate::coordinate_transforms;
+use crate::coords::Face;
 use crate::lonlat::LonLat;
 use crate::spherical::Spherical;
 use answer::Check;
@@ -7,7 +9,8 @@ use answer::Refusal;
 ghost use mathlib.Core.Path.{_≡_};
 ghost use Rattle.answer.specs.Answer.{givenCheck};
 ghost use Rattle.arithmetic.specs.Arith.{ieee};
-ghost use Rattle.coordinates.specs.Conversions.{givenSpherical, givenLonLat, checkLonLat, checkSpherical, finiteSpherical, finiteLonLat, fromLonLatGiven, toLonLatGiven};
+ghost use Rattle.coordinates.specs.Conversions.{givenSpherical, givenLonLat, givenFace, checkLonLat, checkSpherical, checkFace};
+ghost use Rattle.coordinates.specs.Conversions.{finiteSpherical, finiteLonLat, finiteFace, fromLonLatGiven, toLonLatGiven};
 
 pub enum SphericalAnswer {
     Answered(Spherical),
@@ -16,6 +19,11 @@ pub enum SphericalAnswer {
 
 pub enum LonLatAnswer {
     Answered(LonLat),
+    Refused(Refusal),
+}
+
+pub enum FaceAnswer {
+    Answered(Face),
     Refused(Refusal),
 }
 
@@ -39,6 +47,17 @@ pub fn check_spherical(spherical: Spherical) -> Check
         return Check::Refused(n);
     }
     answer::check_number(spherical.phi.0, 8.0)
+}
+
+// x, then y: each for 5 and then 6.
+pub fn check_face(face: Face) -> Check
+    ensures { λ r. ⌜ givenCheck r ≡ checkFace face ⌝ }
+{
+    let x = answer::check_number(face.0.x, 4.0);
+    if let Check::Refused(n) = x {
+        return Check::Refused(n);
+    }
+    answer::check_number(face.0.y, 4.0)
 }
 
 // 9, unless both numbers are finite.
@@ -65,6 +84,19 @@ pub fn finite_lon_lat(lonlat: LonLat) -> LonLatAnswer
     LonLatAnswer::Refused(Refusal::AnswerNotFinite)
 }
 
+// 9, unless both numbers are finite.
+pub fn finite_face(face: Face) -> FaceAnswer
+    ensures { λ r. ⌜ givenFace r ≡ finiteFace face ⌝ }
+{
+    if answer::is_finite(face.0.x) {
+        if answer::is_finite(face.0.y) {
+            return FaceAnswer::Answered(face);
+        }
+    }
+    FaceAnswer::Refused(Refusal::AnswerNotFinite)
+}
+
+// Longitude and latitude to spherical angles: refuses with 5 and 6, and with 9 where an angle is not finite.
 pub fn from_lon_lat(lonlat: LonLat) -> SphericalAnswer
     ensures { λ r. ⌜ givenSpherical r ≡ fromLonLatGiven ieee lonlat ⌝ }
 {
@@ -75,6 +107,7 @@ pub fn from_lon_lat(lonlat: LonLat) -> SphericalAnswer
     finite_spherical(coordinate_transforms::from_lon_lat(lonlat))
 }
 
+// Spherical angles to longitude and latitude: refuses with 5 and 6, and with 9 where a number is not finite.
 pub fn to_lon_lat(spherical: Spherical) -> LonLatAnswer
     ensures { λ r. ⌜ givenLonLat r ≡ toLonLatGiven ieee spherical ⌝ }
 {

@@ -22,7 +22,8 @@ module _ (A : Arith) where
     unfolding addRow
     added k e = let f = rw n at e in rw n (rw (f, addRow))
 
-  pub next-candidate : (table : List Float) (m k : ℕ) (rows : List Float) → k < m → addRows A table (m - k) k rows ≡ addRows A table (m - (k + 1)) (k + 1) (addRow A rows (candidate A table k))
+  pub next-candidate : (table : List Float) (m k : ℕ) (rows : List Float) → k < m
+      → addRows A table (m - k) k rows ≡ addRows A table (m - (k + 1)) (k + 1) (addRow A rows (candidate A table k))
   unfolding addRows
   next-candidate table m k rows h =
       let e : m - k ≡ suc (m - (k + 1)) = omega arith in

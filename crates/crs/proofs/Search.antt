@@ -23,7 +23,11 @@ module _ (A : Arith) (rows : List Float) (p : Cartesian) (at : ℕ) where
 
   from-here : at + 3 ≤ length rows → drop at rows ≡ getD rows at nan ∷ getD rows (at + 1) nan ∷ getD rows (at + 2) nan ∷ drop (at + 3) rows
   from-here h =
-      rw (first at (at + 1) (omega arith) (omega arith), first (at + 1) (at + 2) (omega arith) (omega arith), first (at + 2) (at + 3) (omega arith) (omega arith))
+      rw (
+        first at (at + 1) (omega arith) (omega arith),
+        first (at + 1) (at + 2) (omega arith) (omega arith),
+        first (at + 2) (at + 3) (omega arith) (omega arith),
+      )
 
   -- the row's test, as a Bool that can be known
   tested : (v : Cartesian) (rest : List Float) → Bool → Given Cartesian

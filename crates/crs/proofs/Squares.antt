@@ -17,7 +17,9 @@ odd-unsigned d (suc q) k l = tt
 module _ (f : Format) where
   units-unsigned : (q k : ℕ) → T (unsigned (units f false q k))
   unfolding units
-  units-unsigned q k = either (ltb (q * 2 ^ k) (2 ^ (low f + suc (emax f)))) (odd (suc (prec f)) false q k (low f)) (inf false) (odd-unsigned (suc (prec f)) q k (low f)) tt
+  units-unsigned q k =
+      let small = ltb (q * 2 ^ k) (2 ^ (low f + suc (emax f))) in
+      either small (odd (suc (prec f)) false q k (low f)) (inf false) (odd-unsigned (suc (prec f)) q k (low f)) tt
 
   round-unsigned : (a b : ℕ) → T (unsigned (round f false a b))
   unfolding round

@@ -1,5 +1,5 @@
--- A distance is below 1e-5 exactly where its square, as the code computes it, is below the double 1e-10: the root of 1e-10 is 1e-5, and that of the double below it is smaller.
--- Assumes nothing.
+-- A distance is below 1e-5 exactly where its square, as the code computes it, is below the double 1e-10: the root of 1e-10 is 1e-5, and
+-- that of the double below it is smaller. Assumes nothing.
 use mathlib.Core.Path.{_≡_, refl, sym, ap, _∙_}
 use Prim.Native.Nat.{_+_, _^_}
 use lib.Dec.{T, lit<, lit≤}
@@ -65,7 +65,8 @@ apart p v =
 pub near-squared : (p v : Cartesian) → lt (apart p v) squared ≡ near ieee p v
 unfolding near vec3Distance length subtract
 near-squared p v =
-    let square = square-unsigned binary64 in
+    let dx = square-unsigned binary64 (sub binary64 (x p) (x v)) in
+    let dy = square-unsigned binary64 (sub binary64 (y p) (y v)) in
+    let dz = square-unsigned binary64 (sub binary64 (z p) (z v)) in
     let plus = add-unsigned binary64 in
-    sym (limit (apart p v) (add-fits binary64 _ _) (plus _ _ (plus _ _ (square (sub binary64 (x p) (x v))) (square (sub binary64 (y p) (y v)))) (square (sub binary64 (z p) (z v)))))
-    ∙ ap (lt (sqrt (apart p v))) root-is
+    sym (limit (apart p v) (add-fits binary64 _ _) (plus _ _ (plus _ _ dx dy) dz)) ∙ ap (lt (sqrt (apart p v))) root-is

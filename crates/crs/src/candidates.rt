@@ -36,6 +36,7 @@ fn around(origin: Origin, m: u8, phi: f64) -> Cartesian
     transform_quat(to_cartesian(spherical), origin.quat)
 }
 
+// The centre of face k.
 fn face_center(k: u8) -> Cartesian
     ensures { λ r. ⌜ r ≡ faceCenter ieee ORIGINS k ⌝ }
 {
@@ -43,19 +44,21 @@ fn face_center(k: u8) -> Cartesian
     to_cartesian(origin.axis)
 }
 
+// Vertex k % 5 of face k / 5.
 fn vertex(k: u8) -> Cartesian
     ensures { λ r. ⌜ r ≡ vertex ieee ORIGINS k ⌝ }
 {
     around(get_origin(k / 5), 2 * (k % 5) + 1, PHI_VERTEX)
 }
 
+// The midpoint of edge k % 5 of face k / 5.
 fn midpoint(k: u8) -> Cartesian
     ensures { λ r. ⌜ r ≡ midpoint ieee ORIGINS k ⌝ }
 {
     around(get_origin(k / 5), 2 * (k % 5), PHI_MIDPOINT)
 }
 
-// In the Rust's order: 12 centres, five vertices of each face, five midpoints of each.
+// The candidate with the number k. In the Rust's order: 12 centres, five vertices of each face, five midpoints of each.
 pub fn candidate(k: u8) -> Cartesian
     ensures { λ r. ⌜ r ≡ candidate ieee ORIGINS k ⌝ }
 {

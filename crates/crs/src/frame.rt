@@ -11,6 +11,7 @@ ghost use Rattle.arithmetic.specs.Arith.{ieee};
 ghost use Rattle.origin.specs.Origins.{ORIGINS};
 ghost use Rattle.crs.specs.Frame.{near, givenVertex, findVertex, addRow, frameRows};
 
+// What a lookup comes to: the row, or the refusal.
 pub enum VertexAnswer {
     Answered(Cartesian),
     Refused(Refusal),
@@ -49,9 +50,9 @@ pub fn get_vertex(frame: &[f64], point: Cartesian) -> VertexAnswer
 // normalised, the next row. How many numbers are used then.
 fn add(rows: &mut [f64], used: usize, point: Cartesian) -> usize
     requires { ⌜ used + 3 ≤ length (now rows) ⌝ }
-    ensures { λ r. ⌜ take r (now (rows .exit)) ≡ addRow ieee (take used (now (rows .entry))) point ⌝ }
-    ensures { λ r. ⌜ drop r (now (rows .exit)) ≡ drop r (now (rows .entry)) ⌝ }
-    ensures { λ r. ⌜ (used ≤ r) × (r ≤ used + 3) ⌝ }
+    ensures rows { λ r. ⌜ take r (now (rows .exit)) ≡ addRow ieee (take used (now (rows .entry))) point ⌝ }
+    ensures behind { λ r. ⌜ drop r (now (rows .exit)) ≡ drop r (now (rows .entry)) ⌝ }
+    ensures used { λ r. ⌜ (used ≤ r) × (r ≤ used + 3) ⌝ }
 {
     let row = coordinates::vector::normalize(point);
     let found = get_vertex(&rows[..used], row);
@@ -67,8 +68,8 @@ fn add(rows: &mut [f64], used: usize, point: Cartesian) -> usize
 // Writes the frame's rows to the front of `rows`, which has room for every candidate. How many
 // numbers they are.
 pub fn build_frame(rows: &mut [f64; 396]) -> usize
-    ensures { λ r. ⌜ r ≡ length (frameRows ieee ORIGINS) ⌝ }
-    ensures { λ r. ⌜ now (rows .exit) ≡ frameRows ieee ORIGINS ++ drop r (now (rows .entry)) ⌝ }
+    ensures used { λ r. ⌜ r ≡ length (frameRows ieee ORIGINS) ⌝ }
+    ensures rows { λ r. ⌜ now (rows .exit) ≡ frameRows ieee ORIGINS ++ drop r (now (rows .entry)) ⌝ }
 {
     let mut used: usize = 0;
     let mut k: u8 = 0;

@@ -11,12 +11,16 @@ use Rattle.elementary.specs.Sine.{outside}
 use Rattle.coordinates.specs.declared.coords.Face.{Face}
 use Rattle.coordinates.specs.declared.spherical.Spherical.{Spherical}
 use Rattle.coordinates.proofs.Sizes.{spherical-colatitude}
-use Rattle.dodecahedron.specs.Calls.{Work, inverseCore}
+use Rattle.set.specs.Set.{Set}
+use Rattle.dodecahedron.specs.Work.{Work}
+use Rattle.dodecahedron.specs.Projection.{inverseCore}
 use Rattle.dodecahedron.proofs.Worked.{inverse-point}
 
-pub inverse-colatitude : (table frame face sphere : List Float) (f : Face) (o : ℕ) (w : Work Spherical)
-    → inverseCore ieee table frame face sphere f o ≡ answered w
-    → outside (sub binary64 FRAC-PI-2 (w .answer .phi .0)) ≡ false
-inverse-colatitude table frame face sphere f o w e =
-    let b = inverse-point ieee table frame face sphere o f w e in
-    subst (λ (x : Work Spherical). outside (sub binary64 FRAC-PI-2 (x .answer .phi .0)) ≡ false) (b .3) (spherical-colatitude (b .1))
+abbrev Inside : Work Spherical → Type 0
+Inside w = outside (sub binary64 FRAC-PI-2 (w .answer .phi .0)) ≡ false
+
+pub inverse-colatitude : (table : List Float) (s : Set) (f : Face) (o : ℕ) (w : Work Spherical)
+    → inverseCore ieee table s f o ≡ answered w → outside (sub binary64 FRAC-PI-2 (w .answer .phi .0)) ≡ false
+inverse-colatitude table s f o w e =
+    let b = inverse-point ieee table s o f w e in
+    subst (λ (x : Work Spherical). Inside x) (b .3) (spherical-colatitude (b .1))

@@ -1,9 +1,9 @@
-// Forward and inverse on a set whose buffers have the right lengths, without the checks of the
-// calls. Nothing is written here.
-use crate::used::FaceDone;
-use crate::used::FaceWork;
-use crate::used::SphericalDone;
-use crate::used::SphericalWork;
+// Forward and inverse on a set that passes 1 to 4, without the checks of their numbers. Nothing is
+// written here.
+use crate::work::FaceDone;
+use crate::work::FaceWork;
+use crate::work::SphericalDone;
+use crate::work::SphericalWork;
 use coordinates::base::Radians;
 use coordinates::coordinate_transforms::to_cartesian;
 use coordinates::coordinate_transforms::to_polar;
@@ -22,14 +22,19 @@ use triangles::taken::TakenAnswer;
 use triangles::taken::take;
 ghost use mathlib.Core.Path.{_≡_};
 ghost use mathlib.Core.Bool.{false};
-ghost use Prim.Native.Nat.{_+_, _*_, _<_, _≤_};
+ghost use Prim.Native.Nat.{_+_, _*_, _≤_};
 ghost use lib.ListN.{length};
+ghost use Rattle.answer.specs.Given.{passed};
 ghost use Rattle.arithmetic.specs.Arith.{ieee};
 ghost use Rattle.elementary.specs.Sine.{outside};
 ghost use Rattle.origin.specs.Origins.{ORIGINS};
-ghost use Rattle.set.specs.Sizes.{FRAME, FACE-STORE, SPHERE-STORE};
-ghost use Rattle.dodecahedron.specs.Calls.{rowAt, frameConstants, polarAbout, forwardCore, inverseCore, givenFaceWork, givenSphericalWork};
+ghost use Rattle.set.specs.Sizes.{FRAME};
+ghost use Rattle.set.specs.Checks.{checkCall};
+ghost use Rattle.set.specs.Outcome.{held, lent};
+ghost use Rattle.dodecahedron.specs.Work.{givenFaceWork, givenSphericalWork};
+ghost use Rattle.dodecahedron.specs.Projection.{rowAt, frameConstants, polarAbout, forwardCore, inverseCore};
 
+// Row k of a frame.
 fn row(frame: &[f64], k: usize) -> Cartesian
     requires { ⌜ k * 3 + 3 ≤ length (now frame) ⌝ }
     ensures { λ r. ⌜ r ≡ rowAt (now (frame .entry)) k ⌝ }
@@ -57,15 +62,20 @@ fn frame_constants(frame: &[f64]) -> TriangleConstants
 fn polar_about(origin: Origin, v: Cartesian) -> Polar
     ensures { λ r. ⌜ r ≡ polarAbout ieee origin v ⌝ }
 {
+    // back to the origin's own space
     let quat = origin.quat;
     let out = origin::quaternion::transform_quat(v, origin::quaternion::quat_conjugate(quat));
+    // unprojected gnomonically to polar coordinates there
     let polar = coordinates::gnomonic::forward(to_spherical(out));
+    // turned about the face's axis, so that the origin's own angle is off
     Polar {
         rho: polar.rho,
         gamma: Radians(polar.gamma.0 - origin.angle.0),
     }
 }
 
+// Forward on a set that passes 1 to 4: the triangles of the point, and the point from one to the
+// other by equal areas.
 pub(crate) fn forward_core(
     frame: &[f64],
     face_store: &[f64],
@@ -73,9 +83,9 @@ pub(crate) fn forward_core(
     spherical: Spherical,
     origin: u8,
 ) -> FaceWork
-    requires { ⌜ (length (now frame) ≡ FRAME) × (length (now «face_store») ≡ FACE-STORE) ⌝ }
-    requires { ⌜ (length (now «sphere_store») ≡ SPHERE-STORE) × (origin < 12) × (outside (spherical .theta .0) ≡ false) × (outside (spherical .phi .0) ≡ false) ⌝ }
-    ensures { λ r. ⌜ givenFaceWork r ≡ forwardCore ieee ORIGINS (now (frame .entry)) (now («face_store» .entry)) (now («sphere_store» .entry)) spherical origin ⌝ }
+    requires { ⌜ checkCall (held frame «face_store» «sphere_store») origin ≡ passed ⌝ }
+    requires { ⌜ (outside (spherical .theta .0) ≡ false) × (outside (spherical .phi .0) ≡ false) ⌝ }
+    ensures { λ r. ⌜ givenFaceWork r ≡ forwardCore ieee ORIGINS (lent frame «face_store» «sphere_store» .entry) spherical origin ⌝ }
 {
     let unprojected = to_cartesian(spherical);
     let polar = polar_about(get_origin(origin), unprojected);
@@ -93,13 +103,15 @@ pub(crate) fn forward_core(
                 unprojected,
                 t,
                 bxc,
-                taken.face,
+                taken.face_triangle,
             );
             FaceWork::Done(FaceDone { answer, used })
         }
     }
 }
 
+// Inverse on a set that passes 1 to 4: the triangles of the point, and the point back from one to
+// the other; 19 where the angle of its area share is outside.
 pub(crate) fn inverse_core(
     frame: &[f64],
     face_store: &[f64],
@@ -107,16 +119,21 @@ pub(crate) fn inverse_core(
     face: Face,
     origin: u8,
 ) -> SphericalWork
-    requires { ⌜ (length (now frame) ≡ FRAME) × (length (now «face_store») ≡ FACE-STORE) ⌝ }
-    requires { ⌜ (length (now «sphere_store») ≡ SPHERE-STORE) × (origin < 12) ⌝ }
-    ensures { λ r. ⌜ givenSphericalWork r ≡ inverseCore ieee ORIGINS (now (frame .entry)) (now («face_store» .entry)) (now («sphere_store» .entry)) face origin ⌝ }
+    requires { ⌜ checkCall (held frame «face_store» «sphere_store») origin ≡ passed ⌝ }
+    ensures { λ r. ⌜ givenSphericalWork r ≡ inverseCore ieee ORIGINS (lent frame «face_store» «sphere_store» .entry) face origin ⌝ }
 {
     match take(frame, face_store, sphere_store, origin, to_polar(face)) {
         TakenAnswer::Refused(n) => SphericalWork::Refused(n),
         TakenAnswer::Answered(taken) => {
             let used = taken.used;
             let constants = frame_constants(frame);
-            match equal_area::equal_area::inverse(constants, face, taken.face, used.triangle) {
+            let point = equal_area::equal_area::inverse(
+                constants,
+                face,
+                taken.face_triangle,
+                used.triangle,
+            );
+            match point {
                 PointAnswer::Refused(n) => SphericalWork::Refused(n),
                 PointAnswer::Answered(unprojected) => {
                     let answer = to_spherical(unprojected);

@@ -1,7 +1,8 @@
--- Whether a value has a fraction, by the tests that `floor` and `round` make: none from 2 ^ 52 on, and none where the whole number that they cut it to equals it. What they give then, and otherwise. Assumes nothing.
+-- Whether a value has a fraction, by the tests that `floor` and `round` make: none from 2 ^ 52 on, and none where the whole number that
+-- they cut it to equals it. What they give then, and otherwise. Assumes nothing.
 use mathlib.Core.Path.{_≡_, refl, sym, ap, _∙_, subst}
-use Prim.Native.Nat.{ℕ, zero, suc, _+_, _*_, _/_, _%_, _^_, _≤_, _<_}
-use native.Mathlib.Nat.{le-of-suc-le-suc, lt-of-lt-of-le, mul-one, mul-le-mul-right, mod-one, zero-mod, mul-comm, mul-mod-left, div-lt-iff-lt-mul, div-add-mod', add-div-right, div-div-eq-div-mul}
+use Prim.Native.Nat.{ℕ, zero, suc, _+_, _-_, _*_, _/_, _%_, _^_, _≤_, _<_}
+use native.Mathlib.Nat.{le-of-suc-le-suc, lt-of-lt-of-le, mul-one, mul-le-mul-right, mod-one, zero-mod, mul-comm, mul-mod-left, div-lt-iff-lt-mul, div-add-mod', mod-lt, add-div-right, div-div-eq-div-mul}
 use native.Mathlib.Omega.{arith}
 use mathlib.Core.Bool.{Bool, true, false, not, _&&_, true≢false, false≢true}
 use borrow.Author.Tests.{not-false, ltb-true, lt-ltb, le-ltb, eq-eqb, ne-eqb}
@@ -78,7 +79,9 @@ below-at : (x : Float) → lt (abs x) 2^52 ≡ true → Below x (abs x)
 unfolding lt abs
 below-at nan l = absurd (false≢true l)
 below-at (inf s) l = absurd (false≢true l)
-below-at (fin s m e) l = record { value = (refl, refl); small = let g : m * up e * 1 < 2 ^ 52 * down e = ltb-true (m * up e * 1) (2 ^ 52 * down e) l in omega arith }
+below-at (fin s m e) l =
+    let g : m * up e * 1 < 2 ^ 52 * down e = ltb-true (m * up e * 1) (2 ^ 52 * down e) l in
+    record { value = (refl, refl); small = omega arith }
 
 pub below : (x a : Float) → a ≡ abs x → not (lt a 2^52) ≡ false → Below x a
 below x a e l = subst (Below x) (sym e) (below-at x (ap (λ y. lt y 2^52) (sym e) ∙ not-false (lt a 2^52) l))
@@ -103,7 +106,9 @@ module _ (x a : Float) (k : ℕ) (b : Below x a) (K : k ≤ 2 ^ 53) where
       ap (λ n. n % den x) (sym (h ∙ mul-one (num x))) ∙ mul-mod-left k (den x)
 
   pub unequal : eq (ofInt binary64 (pos k)) a ≡ false → (num x % den x ≡ 0 → k * den x ≡ num x) → Fraction x
-  unequal e h z = T-not (eqb (k * den x) (num x * 1) && true) (rw (sym test ∙ e) tt) (and-i (eqb (k * den x) (num x * 1)) true (eq→eqb (h z ∙ sym (mul-one (num x)))) tt)
+  unequal e h z =
+      let same = eqb (k * den x) (num x * 1) in
+      T-not (same && true) (rw (sym test ∙ e) tt) (and-i same true (eq→eqb (h z ∙ sym (mul-one (num x)))) tt)
 
 fraction-pos : (n d : ℕ) → (n % d ≡ 0 → ⊥) → 0 < n
 fraction-pos zero d z = absurd (z (zero-mod d))
@@ -133,6 +138,19 @@ module _ (n d : ℕ) (D : 0 < d) where
 
   pub cut-lt : n < 2 ^ 52 * d → n / d < 2 ^ 52
   cut-lt h = div-lt-iff-lt-mul D .1 h
+
+  -- the size of a negative value's floor: its own where it is whole, and the next one otherwise
+  pub up-whole : n % d ≡ 0 → (n + d - 1) / d ≡ n / d
+  up-whole z =
+      let e : n + d - 1 ≡ n / d * d + (d - 1) = omega (arith, cut-back z) in
+      let l : d - 1 < d = omega arith in
+      ap (λ k. k / d) e ∙ digits-div (n / d) l
+
+  pub up-part : (n % d ≡ 0 → ⊥) → (n + d - 1) / d ≡ suc (n / d)
+  up-part z =
+      let e : n + d - 1 ≡ suc (n / d) * d + (n % d - 1) = omega (arith, z, div-add-mod' n d) in
+      let l : n % d - 1 < d = omega (arith, mod-lt n D) in
+      ap (λ k. k / d) e ∙ digits-div (suc (n / d)) l
 
   -- the halves, counted
   pub halves : (2 * n / d + 1) / 2 ≡ roundSize n d

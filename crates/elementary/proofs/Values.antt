@@ -1,7 +1,8 @@
--- Floor and round on values, for every finite x: `floor` is the whole number r with r ≤ x < r + 1, `round` the nearest, halves away from zero (specs/Values). Assumes nothing.
+-- Floor and round on values, for every finite x: `floor` is the whole number r with r ≤ x < r + 1, `round` the nearest, halves away
+-- from zero (specs/Values). Assumes nothing.
 use mathlib.Core.Path.{_≡_, refl, sym, ap, _∙_, subst}
 use mathlib.Core.Logic.{_⊎_, inl, inr}
-use Prim.Native.Nat.{ℕ, suc, _+_, _*_, _/_, _%_, _^_, _≤_, _<_}
+use Prim.Native.Nat.{ℕ, suc, _+_, _-_, _*_, _/_, _%_, _^_, _≤_, _<_}
 use native.Mathlib.Nat.{le-trans, le-refl, eq-zero-or-pos, mul-one, mul-mod-left, mul-le-mul-right, mul-lt-mul-of-pos-right, div-add-mod', mod-lt, div-mul-le-self, div-lt-iff-lt-mul}
 use native.Mathlib.Omega.{arith}
 use mathlib.Core.Bool.{Bool, true, false}
@@ -17,13 +18,13 @@ use Rattle.arithmetic.specs.Arith.{ieee}
 use Rattle.square_root.specs.Signs.{negative}
 use Rattle.elementary.specs.Values.{WholeLike, AtMost, BelowNext, FloorOf, RoundOf}
 use Rattle.elementary.specs.Whole.{floorSize, roundSize, floor, round}
-use Rattle.elementary.proofs.Fraction.{fraction-small, floor-whole, floor-part, round-whole, round-part, cut-back, cut-lt, round-back, round-size-le}
+use Rattle.elementary.proofs.Fraction.{fraction-small, floor-whole, floor-part, round-whole, round-part, cut-back, cut-lt, up-whole, up-part, round-back, round-size-le}
 
 -- ---- a whole number of the size k
 
-record Sized (x r : Float) (k : ℕ) : Type 0 where
-  like : WholeLike x r
-  size : num r ≡ k * den r
+pub record Sized (x r : Float) (k : ℕ) : Type 0 where
+  pub like : WholeLike x r
+  pub size : num r ≡ k * den r
 
 sized : (x r : Float) (k : ℕ) → T (fits binary64 r) → HasValue r (negative x) k 1 → Sized x r k
 unfolding negative
@@ -59,30 +60,37 @@ floor-of : (x r : Float) (k : ℕ) → Sized x r k → Floored (negative x) (num
 floor-of x r k z h = let f = floored (negative x) x r k (z .size) h in record { like = z .like; at-most = f .0; below-next = f .1 }
 
 module _ (n d : ℕ) (D : 0 < d) where
-  whole-floor : (s : Bool) → n % d ≡ 0 → Floored s n d (n / d)
-  whole-floor false z = let b = div-add-mod' n d in (omega arith, omega arith)
-  whole-floor true z = let b = div-add-mod' n d in (omega arith, omega arith)
+  floor-size : (s : Bool) → Floored s n d (floorSize s n d)
+  floor-size false = let b = div-add-mod' n d in let l = mod-lt n D in (omega arith, omega arith)
+  floor-size true = let b = div-add-mod' (n + d - 1) d in let l = mod-lt (n + d - 1) D in (omega arith, omega arith)
 
-  part-floor : (s : Bool) → 0 < n % d → Floored s n d (floorSize s n d)
-  part-floor false z = let b = div-add-mod' n d in let l = mod-lt n D in (omega arith, omega arith)
-  part-floor true z = let b = div-add-mod' n d in let l = mod-lt n D in (omega arith, omega arith)
+  size-whole : (s : Bool) → n % d ≡ 0 → floorSize s n d * d ≡ n
+  size-whole false z = cut-back n d D z
+  size-whole true z = ap (λ k. k * d) (up-whole n d D z) ∙ cut-back n d D z
 
-size-le : (s : Bool) (n d : ℕ) → n / d < 2 ^ 52 → floorSize s n d ≤ 2 ^ 53
-size-le false n d h = omega arith
-size-le true n d h = omega arith
+  size-le : (s : Bool) → (n % d ≡ 0 → ⊥) → n < 2 ^ 52 * d → floorSize s n d ≤ 2 ^ 53
+  size-le false z h = omega (arith, cut-lt n d D h)
+  size-le true z h = omega (arith, up-part n d D z, cut-lt n d D h)
 
 not-zero : {a : ℕ} → 0 < a → a ≡ 0 → ⊥
 not-zero h e = omega arith
 
-pub floor-value : (x : Float) → T (fits binary64 x) → T (finite x) → FloorOf x (floor ieee x)
-floor-value x h f = go (eq-zero-or-pos (num x % den x))
-  where
-    go : (num x % den x ≡ 0) ⊎ (0 < num x % den x) → FloorOf x (floor ieee x)
-    go (inl z) = subst (FloorOf x) (floor-whole x z) (floor-of x x (num x / den x) (own x (num x / den x) h f z (cut-back (num x) (den x) (den-pos x) z)) (whole-floor (num x) (den x) (den-pos x) (negative x) z))
-    go (inr p) =
-        let k = floorSize (negative x) (num x) (den x) in
-        let l = size-le (negative x) (num x) (den x) (cut-lt (num x) (den x) (den-pos x) (fraction-small x h (not-zero p))) in
-        subst (FloorOf x) (floor-part x (negative x) k (not-zero p) refl refl) (floor-of x (rounded binary64 (negative x) k 1) k (made x k l) (part-floor (num x) (den x) (den-pos x) (negative x) p))
+module _ (x : Float) (h : T (fits binary64 x)) (f : T (finite x)) where
+  abbrev size-of : ℕ
+  size-of = floorSize (negative x) (num x) (den x)
+
+  pub floor-sized : Sized x (floor ieee x) (floorSize (negative x) (num x) (den x))
+  floor-sized = go (eq-zero-or-pos (num x % den x))
+    where
+      go : (num x % den x ≡ 0) ⊎ (0 < num x % den x) → Sized x (floor ieee x) size-of
+      go (inl z) = subst (λ r. Sized x r size-of) (floor-whole x z) (own x size-of h f z (size-whole (num x) (den x) (den-pos x) (negative x) z))
+      go (inr p) =
+          let z = not-zero p in
+          let l = size-le (num x) (den x) (den-pos x) (negative x) z (fraction-small x h z) in
+          subst (λ r. Sized x r size-of) (floor-part x (negative x) size-of z refl refl) (made x size-of l)
+
+  pub floor-value : FloorOf x (floor ieee x)
+  floor-value = floor-of x (floor ieee x) size-of floor-sized (floor-size (num x) (den x) (den-pos x) (negative x))
 
 -- ---- round
 
@@ -93,7 +101,8 @@ round-of x r z =
     let k = roundSize n d in
     let D : 0 < 2 * d = omega (arith, den-pos x) in
     let a : k * (2 * d) * den r ≤ (2 * n + d) * den r = mul-le-mul-right (den r) (div-mul-le-self (2 * n + d) (2 * d)) in
-    let b : (2 * n + d) * den r < suc k * (2 * d) * den r = mul-lt-mul-of-pos-right (div-lt-iff-lt-mul D .0 (le-refl (suc (roundSize n d)))) (den-pos r) in
+    let next : 2 * n + d < suc k * (2 * d) = div-lt-iff-lt-mul D .0 (le-refl (suc (roundSize n d))) in
+    let b : (2 * n + d) * den r < suc k * (2 * d) * den r = mul-lt-mul-of-pos-right next (den-pos r) in
     record { like = z .like; half-above = rw (z .size) (omega arith); half-below = rw (z .size) (omega arith) }
 
 pub round-value : (x : Float) → T (fits binary64 x) → T (finite x) → RoundOf x (round ieee x)

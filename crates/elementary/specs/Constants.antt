@@ -1,4 +1,5 @@
--- The numbers of document 01, "Elementary steps". The named ones are Rust's `std::f64::consts`, by their bits; the decimal form stands beside them. Definitions only.
+-- The numbers of document 01, "Elementary steps". The named ones are Rust's `std::f64::consts`, by their bits; the decimal form stands
+-- beside them. Definitions only.
 use Prim.Native.Nat.{ℕ, zero, suc, _*_}
 use mathlib.Core.Bool.{false}
 use mathlib.Core.List.{List, [], _∷_, map}

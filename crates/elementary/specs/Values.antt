@@ -35,7 +35,8 @@ pub record FloorOf (x r : Float) : Type 0 where
   pub at-most : AtMost (negative x) r x
   pub below-next : BelowNext (negative x) x r
 
--- |r| ≤ |x| + 1/2 and |x| < |r| + 1/2: r is no further from x than a half, and where x lies halfway between two whole numbers it is not the one of the smaller size
+-- |r| ≤ |x| + 1/2 and |x| < |r| + 1/2: r is no further from x than a half, and where x lies halfway between two whole numbers it is
+-- not the one of the smaller size
 pub record RoundOf (x r : Float) : Type 0 where
   pub like : WholeLike x r
   pub half-above : 2 * num r * den x ≤ (2 * num x + den x) * den r

@@ -56,6 +56,7 @@ const C16: f64 = 1.0 / 20922789888000.0;
 
 const C17: f64 = 1.0 / 355687428096000.0;
 
+// Sine and cosine of one angle.
 pub struct SinCos {
     pub sin: f64,
     pub cos: f64,

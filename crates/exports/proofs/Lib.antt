@@ -1,2 +1,3 @@
 -- Laws behind the proofs of the functions.
 pub mod Shown
+pub mod Returns

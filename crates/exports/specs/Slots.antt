@@ -1,9 +1,8 @@
--- Show and its companion as C functions: what they leave in the numbers lent for their answers, by what the companion gives. Definitions only.
+-- Show and its companion as C functions: what they leave for a slot that is filled or empty. Definitions only.
 use Prim.Native.Nat.{ℕ, _+_, _-_, _*_}
-use mathlib.Core.Bool.{Bool, true, false, cond}
+use mathlib.Core.Bool.{Bool, cond}
 use mathlib.Core.List.{List, [], _∷_}
 use lib.Dec.{eqb}
-use Rattle.answer.specs.Given.{Given, answered, refused}
 use Rattle.show.specs.Show.{widthIn}
 use Rattle.show.specs.declared.StoreKind.{StoreKind}
 use Rattle.show.specs.declared.StoreKind.the-variants as kind
@@ -13,17 +12,13 @@ unfoldable pub storeNamed : ℕ → StoreKind
 storeNamed k = cond (eqb k 0) kind.Face kind.Sphere
 
 -- the companion leaves 1 for a filled slot and 0 for an empty one
-abbrev pub filledAfter : Given Bool → ℕ → ℕ
-filledAfter (answered true) old = 1
-filledAfter (answered false) old = 0
-filledAfter (refused n) old = old
+abbrev pub mark : Bool → ℕ
+mark filled = cond filled 1 0
 
 -- the offset and the length of a slot's coordinates in its store: those behind its mark
 abbrev pub coordinatesIn : StoreKind → ℕ → List ℕ
 coordinatesIn s k = (k * widthIn s + 1) ∷ (widthIn s - 1) ∷ []
 
 -- show leaves them for a filled slot, and no part for an empty one
-abbrev pub partAfter : Given Bool → StoreKind → ℕ → List ℕ → List ℕ
-partAfter (answered true) s k old = coordinatesIn s k
-partAfter (answered false) s k old = 0 ∷ 0 ∷ []
-partAfter (refused n) s k old = old
+abbrev pub part : StoreKind → ℕ → Bool → List ℕ
+part s k filled = cond filled (coordinatesIn s k) (0 ∷ 0 ∷ [])

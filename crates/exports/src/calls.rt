@@ -1,42 +1,41 @@
 // Forward, inverse, place and unplace on a set as C functions.
 use coordinates::base::Degrees;
 use coordinates::base::Radians;
+use coordinates::conversions::FaceAnswer;
 use coordinates::conversions::LonLatAnswer;
 use coordinates::conversions::SphericalAnswer;
 use coordinates::coords::Face;
 use coordinates::lonlat::LonLat;
 use coordinates::spherical::Spherical;
 use coordinates::vec2::Vec2;
-use dodecahedron::used::PlaceAnswer;
-use set::checks::FaceAnswer;
-ghost use mathlib.Core.Path.{_≡_};
+use dodecahedron::place::PlaceAnswer;
 ghost use Rattle.arithmetic.specs.Arith.{ieee};
+ghost use Rattle.coordinates.specs.CoordinateTransforms.{face};
 ghost use Rattle.origin.specs.Origins.{ORIGINS};
-ghost use Rattle.dodecahedron.specs.Calls.{answerOf, usedOf, faceAfter, sphereAfter, forwardGiven, inverseGiven, placeGiven, unplaceGiven};
-ghost use Rattle.exports_tools.specs.Status.{status, facePoint};
-ghost use Rattle.exports.specs.Calls.{lonLat, spherical, sphericalAfter, lonLatAfter, pointAfter, placeIdAfter, placePointAfter};
+ghost use Rattle.set.specs.Outcome.{lent};
+ghost use Rattle.dodecahedron.specs.Calls.{forwardOn, inverseOn, placeOn, unplaceOn};
+ghost use Rattle.exports.specs.Returns.{ReturnsOn, contents, contentsOf};
+ghost use Rattle.exports.specs.Calls.{lonLat, spherical, angles, degrees, point, idAndPoint};
 
 // Forward: the face point, x and y, of a position, in radians, on the face of an origin.
 #[no_mangle]
 pub extern "C" fn a5_forward(
     frame: &[f64],
-    face: &mut [f64],
-    sphere: &mut [f64],
+    face_store: &mut [f64],
+    sphere_store: &mut [f64],
     theta: f64,
     phi: f64,
     origin: u8,
     to: &mut [f64; 2],
 ) -> u8
-    ensures { λ r. ⌜ r ≡ status (answerOf (forwardGiven ieee ORIGINS (now (frame .entry)) (now (face .entry)) (now (sphere .entry)) (spherical theta phi) origin)) ⌝ }
-    ensures { λ _. ⌜ now (face .exit) ≡ faceAfter ieee (now (face .entry)) (usedOf (forwardGiven ieee ORIGINS (now (frame .entry)) (now (face .entry)) (now (sphere .entry)) (spherical theta phi) origin)) ⌝ }
-    ensures { λ _. ⌜ now (sphere .exit) ≡ sphereAfter (now (sphere .entry)) (usedOf (forwardGiven ieee ORIGINS (now (frame .entry)) (now (face .entry)) (now (sphere .entry)) (spherical theta phi) origin)) ⌝ }
-    ensures { λ _. ⌜ now (to .exit) ≡ pointAfter (answerOf (forwardGiven ieee ORIGINS (now (frame .entry)) (now (face .entry)) (now (sphere .entry)) (spherical theta phi) origin)) (now (to .entry)) ⌝ }
+    ensures { λ r. ⌜ ReturnsOn (lent frame «face_store» «sphere_store») r (contents to) point
+        (λ s. forwardOn ieee ORIGINS s (spherical theta phi) origin) ⌝ }
 {
     let position = Spherical {
         theta: Radians(theta),
         phi: Radians(phi),
     };
-    let given = dodecahedron::calls::forward(frame, face, sphere, position, origin);
+    let given = dodecahedron::calls::forward(frame, face_store, sphere_store, position, origin);
     match given {
         FaceAnswer::Answered(f) => {
             *to = [f.0.x, f.0.y];
@@ -50,20 +49,18 @@ pub extern "C" fn a5_forward(
 #[no_mangle]
 pub extern "C" fn a5_inverse(
     frame: &[f64],
-    face: &mut [f64],
-    sphere: &mut [f64],
+    face_store: &mut [f64],
+    sphere_store: &mut [f64],
     x: f64,
     y: f64,
     origin: u8,
     to: &mut [f64; 2],
 ) -> u8
-    ensures { λ r. ⌜ r ≡ status (answerOf (inverseGiven ieee ORIGINS (now (frame .entry)) (now (face .entry)) (now (sphere .entry)) (facePoint x y) origin)) ⌝ }
-    ensures { λ _. ⌜ now (face .exit) ≡ faceAfter ieee (now (face .entry)) (usedOf (inverseGiven ieee ORIGINS (now (frame .entry)) (now (face .entry)) (now (sphere .entry)) (facePoint x y) origin)) ⌝ }
-    ensures { λ _. ⌜ now (sphere .exit) ≡ sphereAfter (now (sphere .entry)) (usedOf (inverseGiven ieee ORIGINS (now (frame .entry)) (now (face .entry)) (now (sphere .entry)) (facePoint x y) origin)) ⌝ }
-    ensures { λ _. ⌜ now (to .exit) ≡ sphericalAfter (answerOf (inverseGiven ieee ORIGINS (now (frame .entry)) (now (face .entry)) (now (sphere .entry)) (facePoint x y) origin)) (now (to .entry)) ⌝ }
+    ensures { λ r. ⌜ ReturnsOn (lent frame «face_store» «sphere_store») r (contents to) angles
+        (λ s. inverseOn ieee ORIGINS s (face x y) origin) ⌝ }
 {
     let point = Face(Vec2 { x, y });
-    let given = dodecahedron::calls::inverse(frame, face, sphere, point, origin);
+    let given = dodecahedron::calls::inverse(frame, face_store, sphere_store, point, origin);
     match given {
         SphericalAnswer::Answered(s) => {
             *to = [s.theta.0, s.phi.0];
@@ -77,24 +74,21 @@ pub extern "C" fn a5_inverse(
 #[no_mangle]
 pub extern "C" fn a5_place(
     frame: &[f64],
-    face: &mut [f64],
-    sphere: &mut [f64],
+    face_store: &mut [f64],
+    sphere_store: &mut [f64],
     longitude: f64,
     latitude: f64,
     id: &mut u8,
     to: &mut [f64; 2],
 ) -> u8
-    ensures { λ r. ⌜ r ≡ status (answerOf (placeGiven ieee ORIGINS (now (frame .entry)) (now (face .entry)) (now (sphere .entry)) (lonLat longitude latitude))) ⌝ }
-    ensures { λ _. ⌜ now (face .exit) ≡ faceAfter ieee (now (face .entry)) (usedOf (placeGiven ieee ORIGINS (now (frame .entry)) (now (face .entry)) (now (sphere .entry)) (lonLat longitude latitude))) ⌝ }
-    ensures { λ _. ⌜ now (sphere .exit) ≡ sphereAfter (now (sphere .entry)) (usedOf (placeGiven ieee ORIGINS (now (frame .entry)) (now (face .entry)) (now (sphere .entry)) (lonLat longitude latitude))) ⌝ }
-    ensures { λ _. ⌜ now (id .exit) ≡ placeIdAfter (answerOf (placeGiven ieee ORIGINS (now (frame .entry)) (now (face .entry)) (now (sphere .entry)) (lonLat longitude latitude))) (now (id .entry)) ⌝ }
-    ensures { λ _. ⌜ now (to .exit) ≡ placePointAfter (answerOf (placeGiven ieee ORIGINS (now (frame .entry)) (now (face .entry)) (now (sphere .entry)) (lonLat longitude latitude))) (now (to .entry)) ⌝ }
+    ensures { λ r. ⌜ ReturnsOn (lent frame «face_store» «sphere_store») r (contentsOf id to) idAndPoint
+        (λ s. placeOn ieee ORIGINS s (lonLat longitude latitude)) ⌝ }
 {
     let position = LonLat {
         longitude: Degrees(longitude),
         latitude: Degrees(latitude),
     };
-    let given = dodecahedron::calls::place(frame, face, sphere, position);
+    let given = dodecahedron::calls::place(frame, face_store, sphere_store, position);
     match given {
         PlaceAnswer::Answered(p) => {
             *id = p.origin;
@@ -109,20 +103,18 @@ pub extern "C" fn a5_place(
 #[no_mangle]
 pub extern "C" fn a5_unplace(
     frame: &[f64],
-    face: &mut [f64],
-    sphere: &mut [f64],
+    face_store: &mut [f64],
+    sphere_store: &mut [f64],
     x: f64,
     y: f64,
     origin: u8,
     to: &mut [f64; 2],
 ) -> u8
-    ensures { λ r. ⌜ r ≡ status (answerOf (unplaceGiven ieee ORIGINS (now (frame .entry)) (now (face .entry)) (now (sphere .entry)) (facePoint x y) origin)) ⌝ }
-    ensures { λ _. ⌜ now (face .exit) ≡ faceAfter ieee (now (face .entry)) (usedOf (unplaceGiven ieee ORIGINS (now (frame .entry)) (now (face .entry)) (now (sphere .entry)) (facePoint x y) origin)) ⌝ }
-    ensures { λ _. ⌜ now (sphere .exit) ≡ sphereAfter (now (sphere .entry)) (usedOf (unplaceGiven ieee ORIGINS (now (frame .entry)) (now (face .entry)) (now (sphere .entry)) (facePoint x y) origin)) ⌝ }
-    ensures { λ _. ⌜ now (to .exit) ≡ lonLatAfter (answerOf (unplaceGiven ieee ORIGINS (now (frame .entry)) (now (face .entry)) (now (sphere .entry)) (facePoint x y) origin)) (now (to .entry)) ⌝ }
+    ensures { λ r. ⌜ ReturnsOn (lent frame «face_store» «sphere_store») r (contents to) degrees
+        (λ s. unplaceOn ieee ORIGINS s (face x y) origin) ⌝ }
 {
     let point = Face(Vec2 { x, y });
-    let given = dodecahedron::calls::unplace(frame, face, sphere, point, origin);
+    let given = dodecahedron::calls::unplace(frame, face_store, sphere_store, point, origin);
     match given {
         LonLatAnswer::Answered(l) => {
             *to = [l.longitude.0, l.latitude.0];

@@ -1,6 +1,6 @@
 // The calls as C functions, for programs in other languages. Each returns 0 where the call answered,
-// and otherwise the number that document 01's table gives its refusal. What is lent for an answer is
-// written where the call answered, and left as it was where it refused.
+// and otherwise the number of its refusal (crate answer). What is lent for an answer is written where
+// the call answered, and left as it was where it refused.
 //
 // A slice is two arguments in C, a pointer and then how many numbers there are. An answer of two
 // numbers is lent as a reference to an array of two, in C a pointer: it has no length to be wrong.
@@ -22,20 +22,19 @@ ghost use Rattle.arithmetic.specs.Arith.{ieee};
 ghost use Rattle.coordinates.specs.Conversions.{fromLonLatGiven, toLonLatGiven};
 ghost use Rattle.origin.specs.Origins.{ORIGINS};
 ghost use Rattle.origin.specs.Nearest.{nearestGiven};
-ghost use Rattle.set.specs.Sizes.{FACE-STORE, SPHERE-STORE};
-ghost use Rattle.set.specs.Open.{openGiven, frameAfter, clearedAfter};
-ghost use Rattle.exports_tools.specs.Status.{status};
-ghost use Rattle.exports.specs.Calls.{idAfter, sphericalAfter, lonLatAfter, lonLat, spherical};
+ghost use Rattle.set.specs.Outcome.{lent, Becomes};
+ghost use Rattle.set.specs.Open.{openOn};
+ghost use Rattle.answer.specs.Given.{status};
+ghost use Rattle.exports.specs.Returns.{Returns, contents};
+ghost use Rattle.exports.specs.Calls.{id as Calls·id, angles, degrees, lonLat, spherical};
 
 // Open: writes the frame and fills both stores with 0.0.
 #[no_mangle]
-pub extern "C" fn a5_open(frame: &mut [f64], face: &mut [f64], sphere: &mut [f64]) -> u8
-    ensures { λ r. ⌜ r ≡ status (openGiven ieee ORIGINS (now (frame .entry)) (now (face .entry)) (now (sphere .entry))) ⌝ }
-    ensures { λ _. ⌜ now (frame .exit) ≡ frameAfter ieee ORIGINS (openGiven ieee ORIGINS (now (frame .entry)) (now (face .entry)) (now (sphere .entry))) (now (frame .entry)) ⌝ }
-    ensures { λ _. ⌜ now (face .exit) ≡ clearedAfter (openGiven ieee ORIGINS (now (frame .entry)) (now (face .entry)) (now (sphere .entry))) FACE-STORE (now (face .entry)) ⌝ }
-    ensures { λ _. ⌜ now (sphere .exit) ≡ clearedAfter (openGiven ieee ORIGINS (now (frame .entry)) (now (face .entry)) (now (sphere .entry))) SPHERE-STORE (now (sphere .entry)) ⌝ }
+pub extern "C" fn a5_open(frame: &mut [f64], face_store: &mut [f64], sphere_store: &mut [f64]) -> u8
+    ensures answer { λ r. ⌜ r ≡ status (openOn ieee ORIGINS (lent frame «face_store» «sphere_store» .entry) .answer) ⌝ }
+    ensures left { λ _. ⌜ Becomes (lent frame «face_store» «sphere_store») (λ s. openOn ieee ORIGINS s .set) ⌝ }
 {
-    let given = set::open::open(frame, face, sphere);
+    let given = set::open::open(frame, face_store, sphere_store);
     match given {
         OpenAnswer::Opened => 0,
         OpenAnswer::Refused(n) => answer::number(n),
@@ -45,8 +44,7 @@ pub extern "C" fn a5_open(frame: &mut [f64], face: &mut [f64], sphere: &mut [f64
 // Nearest: the number of the origin nearest to a position, in radians, goes to id.
 #[no_mangle]
 pub extern "C" fn a5_nearest(theta: f64, phi: f64, id: &mut u8) -> u8
-    ensures { λ r. ⌜ r ≡ status (nearestGiven ieee ORIGINS (spherical theta phi)) ⌝ }
-    ensures { λ _. ⌜ now (id .exit) ≡ idAfter (nearestGiven ieee ORIGINS (spherical theta phi)) (now (id .entry)) ⌝ }
+    ensures { λ r. ⌜ Returns (nearestGiven ieee ORIGINS (spherical theta phi)) r (contents id) Calls·id ⌝ }
 {
     let given = origin::origin::nearest(Spherical {
         theta: Radians(theta),
@@ -64,8 +62,7 @@ pub extern "C" fn a5_nearest(theta: f64, phi: f64, id: &mut u8) -> u8
 // From longitude and latitude, in degrees, to theta and phi, in radians.
 #[no_mangle]
 pub extern "C" fn a5_from_lon_lat(longitude: f64, latitude: f64, to: &mut [f64; 2]) -> u8
-    ensures { λ r. ⌜ r ≡ status (fromLonLatGiven ieee (lonLat longitude latitude)) ⌝ }
-    ensures { λ _. ⌜ now (to .exit) ≡ sphericalAfter (fromLonLatGiven ieee (lonLat longitude latitude)) (now (to .entry)) ⌝ }
+    ensures { λ r. ⌜ Returns (fromLonLatGiven ieee (lonLat longitude latitude)) r (contents to) angles ⌝ }
 {
     let given = coordinates::conversions::from_lon_lat(LonLat {
         longitude: Degrees(longitude),
@@ -83,8 +80,7 @@ pub extern "C" fn a5_from_lon_lat(longitude: f64, latitude: f64, to: &mut [f64; 
 // From theta and phi, in radians, to longitude and latitude, in degrees.
 #[no_mangle]
 pub extern "C" fn a5_to_lon_lat(theta: f64, phi: f64, to: &mut [f64; 2]) -> u8
-    ensures { λ r. ⌜ r ≡ status (toLonLatGiven ieee (spherical theta phi)) ⌝ }
-    ensures { λ _. ⌜ now (to .exit) ≡ lonLatAfter (toLonLatGiven ieee (spherical theta phi)) (now (to .entry)) ⌝ }
+    ensures { λ r. ⌜ Returns (toLonLatGiven ieee (spherical theta phi)) r (contents to) degrees ⌝ }
 {
     let given = coordinates::conversions::to_lon_lat(Spherical {
         theta: Radians(theta),

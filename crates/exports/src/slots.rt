@@ -6,8 +6,8 @@ use show::StoreKind;
 ghost use mathlib.Core.Path.{_≡_};
 ghost use Prim.Native.Nat.{_<_};
 ghost use Rattle.show.specs.Show.{slotGiven, slotsIn};
-ghost use Rattle.exports_tools.specs.Status.{status};
-ghost use Rattle.exports.specs.Slots.{storeNamed, coordinatesIn, filledAfter, partAfter};
+ghost use Rattle.exports.specs.Returns.{Returns, contents};
+ghost use Rattle.exports.specs.Slots.{storeNamed, coordinatesIn, mark, part as Slots·part};
 
 // 0 names the face store and every other number the sphere store, as C reads a truth value:
 // document 01 has no refusal for a kind that is neither.
@@ -23,17 +23,17 @@ fn store_named(kind: u8) -> StoreKind
 // The companion: 1 goes to filled where the slot is filled, and 0 where it is empty.
 #[no_mangle]
 pub extern "C" fn a5_slot_state(
-    face: &[f64],
-    sphere: &[f64],
+    face_store: &[f64],
+    sphere_store: &[f64],
     kind: u8,
     slot: usize,
     filled: &mut u8,
 ) -> u8
-    ensures { λ r. ⌜ r ≡ status (slotGiven (now (face .entry)) (now (sphere .entry)) (storeNamed kind) slot) ⌝ }
-    ensures { λ _. ⌜ now (filled .exit) ≡ filledAfter (slotGiven (now (face .entry)) (now (sphere .entry)) (storeNamed kind) slot) (now (filled .entry)) ⌝ }
+    ensures { λ r. ⌜ Returns (slotGiven (now («face_store» .entry)) (now («sphere_store» .entry)) (storeNamed kind) slot) r
+        (contents filled) mark ⌝ }
 {
     let named = store_named(kind);
-    let given = show::slot_state(face, sphere, named, slot);
+    let given = show::slot_state(face_store, sphere_store, named, slot);
     match given {
         SlotState::Filled => {
             *filled = 1;
@@ -62,17 +62,17 @@ fn coordinates(named: StoreKind, slot: usize) -> [usize; 2]
 // slot is empty.
 #[no_mangle]
 pub extern "C" fn a5_show(
-    face: &[f64],
-    sphere: &[f64],
+    face_store: &[f64],
+    sphere_store: &[f64],
     kind: u8,
     slot: usize,
     part: &mut [usize; 2],
 ) -> u8
-    ensures { λ r. ⌜ r ≡ status (slotGiven (now (face .entry)) (now (sphere .entry)) (storeNamed kind) slot) ⌝ }
-    ensures { λ _. ⌜ now (part .exit) ≡ partAfter (slotGiven (now (face .entry)) (now (sphere .entry)) (storeNamed kind) slot) (storeNamed kind) slot (now (part .entry)) ⌝ }
+    ensures { λ r. ⌜ Returns (slotGiven (now («face_store» .entry)) (now («sphere_store» .entry)) (storeNamed kind) slot) r
+        (contents part) (Slots·part (storeNamed kind) slot) ⌝ }
 {
     let named = store_named(kind);
-    let given = show::slot_state(face, sphere, named, slot);
+    let given = show::slot_state(face_store, sphere_store, named, slot);
     match given {
         SlotState::Filled => {
             *part = coordinates(named, slot);

@@ -1,4 +1,4 @@
-// Sine and remainder as C functions, for the benchmark alone: the library's calls are in crate exports.
+// Sine and remainder as C functions, for the benchmark alone: the library's calls are in crates exports and exports_tools.
 use elementary::sine::SineAnswer;
 use elementary::sine::sin;
 use remainder::remainder;

@@ -2,10 +2,10 @@
 use mathlib.Core.Path.{_≡_}
 use Prim.Native.Nat.{ℕ}
 use Rattle.coordinates.specs.declared.coords.Face.{Face}
-use Rattle.set.specs.Checks.{checkFace}
+use Rattle.coordinates.specs.Conversions.{checkFace}
 use Rattle.caption_box.specs.declared.CaptionBox.{CaptionBox}
 use Rattle.caption_box.specs.Sides.{taken}
-use Rattle.exports_tools.specs.Status.{status}
+use Rattle.answer.specs.Given.{status}
 
 pub record BoxTakes (returned : ℕ) (after before : CaptionBox) (p : Face) : Type 0 where
   pub answer : returned ≡ status (checkFace p)

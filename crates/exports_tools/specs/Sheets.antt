@@ -3,7 +3,7 @@ use Prim.Native.Nat.{ℕ}
 use mathlib.Core.Path.{_≡_}
 use mathlib.Core.List.{List}
 use Rattle.sheet.specs.Sheet.{sheetGiven, pageAfter}
-use Rattle.exports_tools.specs.Status.{status}
+use Rattle.answer.specs.Given.{status}
 
 -- the sheet of these counts on the page p returns r, and leaves q
 pub record SheetFor (counts p : List ℕ) (r : ℕ) (q : List ℕ) : Type 0 where

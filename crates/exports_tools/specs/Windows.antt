@@ -3,7 +3,7 @@ use Prim.Native.Nat.{ℕ}
 use mathlib.Core.Path.{_≡_}
 use Rattle.window.specs.declared.Window.{Window}
 use Rattle.window.specs.Addition.{addGiven, windowAfter}
-use Rattle.exports_tools.specs.Status.{status}
+use Rattle.answer.specs.Given.{status}
 
 -- an addition to the window w returns r, and leaves v
 pub record AddedFor (w : Window) (m o r : ℕ) (v : Window) : Type 0 where

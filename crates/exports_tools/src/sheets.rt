@@ -1,20 +1,7 @@
 // The sheet of Paper 13 as a C function. The page is a pointer and how many bytes there are, as every slice.
-use sheet::SheetAnswer;
 use window::Window;
 ghost use mathlib.Core.Path.{_≡_};
-ghost use Rattle.sheet.specs.Sheet.{givenSheet};
-ghost use Rattle.exports_tools.specs.Status.{status};
 ghost use Rattle.exports_tools.specs.Sheets.{SheetFor};
-
-// A sheet's answer as a status.
-fn sheet_status(a: SheetAnswer) -> u8
-    ensures { λ r. ⌜ r ≡ status (givenSheet a) ⌝ }
-{
-    match a {
-        SheetAnswer::Printed => 0,
-        SheetAnswer::Refused(n) => answer::number(n),
-    }
-}
 
 // Sheet: prints a window's counts on a page of 4,860 bytes.
 #[no_mangle]
@@ -22,5 +9,5 @@ pub extern "C" fn a5_sheet(window: &Window, page: &mut [u8]) -> u8
     ensures { λ r. ⌜ SheetFor (now (window .entry) .counts) (now (page .entry)) r (now (page .exit)) ⌝ }
 {
     let given = sheet::sheet(window, page);
-    sheet_status(given)
+    answer::status(given)
 }

@@ -1,22 +1,9 @@
 // The window of Paper 5 as C functions. A window is lent by a pointer to the struct, which has one size, so there is no
 // length to be wrong. Whatever the struct holds, each call ends.
-use window::AddAnswer;
 use window::Window;
 ghost use mathlib.Core.Path.{_≡_};
 ghost use Rattle.window.specs.Window.{emptyWindow};
-ghost use Rattle.window.specs.Addition.{givenAdd};
-ghost use Rattle.exports_tools.specs.Status.{status};
 ghost use Rattle.exports_tools.specs.Windows.{AddedFor};
-
-// An addition's answer as a status.
-fn add_status(a: AddAnswer) -> u8
-    ensures { λ r. ⌜ r ≡ status (givenAdd a) ⌝ }
-{
-    match a {
-        AddAnswer::Added => 0,
-        AddAnswer::Refused(n) => answer::number(n),
-    }
-}
 
 // New: makes the window empty, whatever stood there.
 #[no_mangle]
@@ -32,7 +19,7 @@ pub extern "C" fn a5_window_add(window: &mut Window, minute: u32, origin: u8) ->
     ensures { λ r. ⌜ AddedFor (now (window .entry)) minute origin r (now (window .exit)) ⌝ }
 {
     let given = window::add(window, minute, origin);
-    add_status(given)
+    answer::status(given)
 }
 
 // The twelve counts of the kept strikes.

@@ -1,12 +1,15 @@
--- Two sets that calls have left from newly opened ones give the same answers, since the calls take the same triangles on them. Assumes nothing.
+-- Two sets that calls have left from newly opened ones give the same answers, since the calls take the same triangles on them. Assumes
+-- nothing.
 use mathlib.Core.Path.{_≡_, refl, sym, ap, _∙_}
+use mathlib.Core.Bool.{not}
 use Prim.Native.Nat.{ℕ, _<_}
-use Rattle.answer.specs.Given.{Given, answered, refused, passed, andThen, bind}
+use lib.Dec.{eqb}
+use lib.ListN.{length}
+use Rattle.answer.specs.Given.{Given, answered, refused, passed, refuseIf, andThen, bind}
 use Rattle.answer.proofs.Given.{then-answered}
 use Rattle.arithmetic.specs.Arith.{ieee}
 use Rattle.coordinates.specs.CoordinateTransforms.{toPolar, toSpherical, toCartesian, fromLonLat, toLonLat}
-use Rattle.coordinates.specs.Conversions.{checkLonLat, checkSpherical, finiteSpherical, finiteLonLat}
-use Rattle.coordinates.specs.Vector.{cross}
+use Rattle.coordinates.specs.Conversions.{checkLonLat, checkSpherical, checkFace, finiteSpherical, finiteLonLat, finiteFace}
 use Rattle.coordinates.specs.declared.coords.Face.{Face}
 use Rattle.coordinates.specs.declared.lonlat.LonLat.{LonLat}
 use Rattle.coordinates.specs.declared.polar.Polar.{Polar}
@@ -16,38 +19,51 @@ use Rattle.origin.specs.Nearest.{nearestOrigin}
 use Rattle.origin.proofs.LowestNearest.{nearest-is}
 use Rattle.tiling.specs.Index.{triangleIndex, shouldReflect}
 use Rattle.tiling.proofs.Modulo.{index-below-10}
-use Rattle.equal_area.specs.EqualArea.{forward, inverse}
-use Rattle.stores.specs.Used.{faceSlot}
-use Rattle.set.proofs.Lengths.{set-fits}
-use Rattle.set.specs.Checks.{checkBuffers, checkOrigin, checkFace, finiteFace}
-use Rattle.triangles.specs.Taken.{faceFor, usedFor}
-use Rattle.dodecahedron.specs.Calls.{Work, answerOf, placed, call, frameConstants, polarAbout, forwardCore, inverseCore}
+use Rattle.equal_area.specs.EqualArea.{inverse}
+use Rattle.set.specs.Sizes.{FRAME, FACE-STORE, SPHERE-STORE}
+use Rattle.set.specs.Set.{Set, checkSet}
+use Rattle.set.specs.Checks.{checkOrigin, checkCall}
+use Rattle.set.proofs.Lengths.{call-passed}
+use Rattle.stores.specs.Slots.{faceSlot}
 use Rattle.stores.specs.declared.used.Used.{Used}
+use Rattle.triangles.specs.Taken.{faceFor, usedFor}
+use Rattle.dodecahedron.specs.Place.{finitePlace}
+use Rattle.dodecahedron.specs.Work.{Work, answerOf, finish}
+use Rattle.dodecahedron.specs.Projection.{frameConstants, polarAbout, facePoint, forwardCore, inverseCore}
+use Rattle.dodecahedron.specs.Calls.{forwardGiven, inverseGiven, placeGiven, unplaceGiven}
 use Rattle.dodecahedron.proofs.Ended.{forward-is, inverse-is, place-is, unplace-is}
-use Rattle.histories.specs.Lists.{Buffers, forwardOn, inverseOn, placeOn, unplaceOn}
-use Rattle.histories.specs.Since.{Since}
 use Rattle.histories.specs.EveryList.{SameAnswers}
+use Rattle.histories.proofs.Told.{Since}
 use Rattle.histories.proofs.Taken.{Good, face-taken, sphere-taken}
 
--- a call whose core gives the same wherever its checks pass
-call-same : {X Y : Type 0} (check : Given (Unit {0})) (core core' : Given (Work X)) (f : X → Given Y) → (check ≡ passed → core ≡ core') → call check core f ≡ call check core' f
-unfolding call
-call-same (refused n) core core' f e = refl
-call-same (answered u) core core' f e = ap (λ (g : Given (Work _)). call passed g f) (e refl)
+-- what follows a check, if that gives the same and what follows does wherever it passes
+then-same : {X : Type 0} (check check' : Given (Unit {0})) (a b : Given X) → check ≡ check' → (check ≡ passed → a ≡ b) → andThen check a ≡ andThen check' b
+then-same (answered u) check' a b e same = same refl ∙ ap (λ (g : Given (Unit {0})). andThen g b) e
+then-same (refused n) check' a b e same = ap (λ (g : Given (Unit {0})). andThen g b) e
 
 -- ---- the cores on two sets
-module _ (w v : Since) (s n : Buffers) (good : Good w s) (also : Good v n) where
+module _ (w v : Since) (s n : Set) (good : Good w s) (also : Good v n) where
   same-frame : s .frame ≡ n .frame
   same-frame = good .frame ∙ good .rows ∙ sym (also .frame ∙ also .rows)
 
-  same-checks : checkBuffers (s .frame) (s .face) (s .sphere) ≡ checkBuffers (n .frame) (n .face) (n .sphere)
-  same-checks = rw (same-frame, good .face-long, good .sphere-long, also .face-long, also .sphere-long)
+  same-checks : checkSet s ≡ checkSet n
+  unfolding checkSet
+  same-checks =
+      let faces = good .face-long ∙ sym (also .face-long) in
+      let spheres = good .sphere-long ∙ sym (also .sphere-long) in
+      λ j.
+      refuseIf (not (eqb (length (same-frame j)) FRAME)) 1
+      (refuseIf (not (eqb (faces j) FACE-STORE)) 2
+      (refuseIf (not (eqb (spheres j) SPHERE-STORE)) 3
+      passed))
 
-  same-faces : (u : Used) → faceFor ieee (s .face) u ≡ faceFor ieee (n .face) u
+  same-faces : (u : Used) → faceFor ieee s u ≡ faceFor ieee n u
   unfolding faceFor
-  same-faces u = face-taken w s good (faceSlot (u .index) (u .reflected)) ∙ sym (face-taken v n also (faceSlot (u .index) (u .reflected)))
+  same-faces u =
+      let k = faceSlot (u .index) (u .reflected) in
+      face-taken w s good k ∙ sym (face-taken v n also k)
 
-  same-used : (o : ℕ) (polar : Polar) → o < 12 → usedFor ieee ORIGINS (s .frame) (s .face) (s .sphere) o polar ≡ usedFor ieee ORIGINS (n .frame) (n .face) (n .sphere) o polar
+  same-used : (o : ℕ) (polar : Polar) → o < 12 → usedFor ieee ORIGINS s o polar ≡ usedFor ieee ORIGINS n o polar
   unfolding usedFor
   same-used o polar h =
       let i = triangleIndex ieee (polar .gamma) in
@@ -55,16 +71,16 @@ module _ (w v : Since) (s n : Buffers) (good : Good w s) (also : Good v n) where
       let small = index-below-10 ieee (polar .gamma) in
       rw (sphere-taken w s good o i r h small, sphere-taken v n also o i r h small, good .rows, also .rows)
 
-  same-forward : (p : Spherical) (o : ℕ) → o < 12 → forwardCore ieee ORIGINS (s .frame) (s .face) (s .sphere) p o ≡ forwardCore ieee ORIGINS (n .frame) (n .face) (n .sphere) p o
+  same-forward : (p : Spherical) (o : ℕ) → o < 12 → forwardCore ieee ORIGINS s p o ≡ forwardCore ieee ORIGINS n p o
   unfolding forwardCore
   same-forward p o h =
       let v = toCartesian ieee p in
       let e = same-used o (polarAbout ieee (originAt ORIGINS o) v) h in
       λ j.
       bind (e j) λ u.
-      answered (record { answer = forward ieee (frameConstants ieee (same-frame j)) v (u .triangle) (cross ieee (u .triangle .b) (u .triangle .c)) (same-faces u j); used = u })
+      answered (record { answer = facePoint ieee (frameConstants ieee (same-frame j)) v (u .triangle) (same-faces u j); used = u })
 
-  same-inverse : (f : Face) (o : ℕ) → o < 12 → inverseCore ieee ORIGINS (s .frame) (s .face) (s .sphere) f o ≡ inverseCore ieee ORIGINS (n .frame) (n .face) (n .sphere) f o
+  same-inverse : (f : Face) (o : ℕ) → o < 12 → inverseCore ieee ORIGINS s f o ≡ inverseCore ieee ORIGINS n f o
   unfolding inverseCore
   same-inverse f o h =
       let e = same-used o (toPolar ieee f) h in
@@ -75,46 +91,42 @@ module _ (w v : Since) (s n : Buffers) (good : Good w s) (also : Good v n) where
 
   -- ---- the calls
 
-  -- 1 to 4, and then the checks of the call's own numbers
-  checks-same : (o : ℕ) (own : Given (Unit {0}))
-      → andThen (andThen (checkBuffers (s .frame) (s .face) (s .sphere)) (checkOrigin o)) own ≡ andThen (andThen (checkBuffers (n .frame) (n .face) (n .sphere)) (checkOrigin o)) own
-  checks-same o own = ap (λ (g : Given (Unit {0})). andThen (andThen g (checkOrigin o)) own) same-checks
-
   -- a call on an origin: where its checks pass, the origin is one of the twelve
   on-origin : {X Y : Type 0} (o : ℕ) (own : Given (Unit {0})) (core core' : Given (Work X)) (f : X → Given Y) → (o < 12 → core ≡ core')
-      → call (andThen (andThen (checkBuffers (s .frame) (s .face) (s .sphere)) (checkOrigin o)) own) core f
-      ≡ call (andThen (andThen (checkBuffers (n .frame) (n .face) (n .sphere)) (checkOrigin o)) own) core' f
+      → andThen (andThen (checkCall s o) own) (finish core f) ≡ andThen (andThen (checkCall n o) own) (finish core' f)
   on-origin o own core core' f e =
-      call-same _ core core' f (λ p. e (set-fits _ _ _ o (then-answered _ own tt p .0) .1 .1))
-      ∙ ap (λ (g : Given (Unit {0})). call g core' f) (checks-same o own)
+      let checks = ap (λ (g : Given (Unit {0})). andThen (andThen g (checkOrigin o)) own) same-checks in
+      then-same _ _ _ _ checks λ p.
+      ap (λ (g : Given (Work _)). finish g f) (e (call-passed s o (then-answered _ own tt p .0) .1))
 
-  pub forward-same : (p : Spherical) (o : ℕ) → forwardOn s p o ≡ forwardOn n p o
+  pub forward-same : (p : Spherical) (o : ℕ) → forwardGiven ieee ORIGINS s p o ≡ forwardGiven ieee ORIGINS n p o
   forward-same p o =
-      forward-is ieee ORIGINS (s .frame) (s .face) (s .sphere) o p
+      forward-is ieee ORIGINS s p o
       ∙ on-origin o (checkSpherical p) _ _ finiteFace (same-forward p o)
-      ∙ sym (forward-is ieee ORIGINS (n .frame) (n .face) (n .sphere) o p)
+      ∙ sym (forward-is ieee ORIGINS n p o)
 
-  pub inverse-same : (f : Face) (o : ℕ) → inverseOn s f o ≡ inverseOn n f o
+  pub inverse-same : (f : Face) (o : ℕ) → inverseGiven ieee ORIGINS s f o ≡ inverseGiven ieee ORIGINS n f o
   inverse-same f o =
-      inverse-is ieee ORIGINS (s .frame) (s .face) (s .sphere) o f
+      inverse-is ieee ORIGINS s f o
       ∙ on-origin o (checkFace f) _ _ finiteSpherical (same-inverse f o)
-      ∙ sym (inverse-is ieee ORIGINS (n .frame) (n .face) (n .sphere) o f)
+      ∙ sym (inverse-is ieee ORIGINS n f o)
 
-  pub unplace-same : (f : Face) (o : ℕ) → unplaceOn s f o ≡ unplaceOn n f o
+  pub unplace-same : (f : Face) (o : ℕ) → unplaceGiven ieee ORIGINS s f o ≡ unplaceGiven ieee ORIGINS n f o
   unplace-same f o =
-      unplace-is ieee ORIGINS (s .frame) (s .face) (s .sphere) o f
+      unplace-is ieee ORIGINS s f o
       ∙ on-origin o (checkFace f) _ _ (λ q. finiteLonLat (toLonLat ieee q)) (same-inverse f o)
-      ∙ sym (unplace-is ieee ORIGINS (n .frame) (n .face) (n .sphere) o f)
+      ∙ sym (unplace-is ieee ORIGINS n f o)
 
   -- place's origin is the nearest one
-  pub place-same : (p : LonLat) → placeOn s p ≡ placeOn n p
+  pub place-same : (p : LonLat) → placeGiven ieee ORIGINS s p ≡ placeGiven ieee ORIGINS n p
   place-same p =
       let q = fromLonLat ieee p in
       let o = nearestOrigin ieee ORIGINS q in
-      place-is ieee ORIGINS (s .frame) (s .face) (s .sphere) o p q refl refl
-      ∙ call-same _ _ _ (placed o) (λ e. same-forward q o (nearest-is ieee ORIGINS q .origin))
-      ∙ ap (λ (g : Given (Unit {0})). call (andThen g (checkLonLat p)) (forwardCore ieee ORIGINS (n .frame) (n .face) (n .sphere) q o) (placed o)) same-checks
-      ∙ sym (place-is ieee ORIGINS (n .frame) (n .face) (n .sphere) o p q refl refl)
+      let checks = ap (λ (g : Given (Unit {0})). andThen g (checkLonLat p)) same-checks in
+      let core = same-forward q o (nearest-is ieee ORIGINS q .origin) in
+      place-is ieee ORIGINS s p q o refl refl
+      ∙ then-same _ _ _ _ checks (λ e. ap (λ (g : Given (Work Face)). finish g (finitePlace o)) core)
+      ∙ sym (place-is ieee ORIGINS n p q o refl refl)
 
   pub same-answers : SameAnswers s n
   same-answers =

@@ -30,7 +30,8 @@ module _ {A : Type 0} where
   behind (y ∷ ys) (x ∷ xs) zero d h l = absurd (omega arith)
   behind (y ∷ ys) (x ∷ xs) (suc i) d h l = behind ys xs i d (omega arith) (omega arith)
 
-  above : (xs : List A) (at : ℕ) (ys : List A) (i : ℕ) (d : A) → at + length ys ≤ i → at + length ys ≤ length xs → getD (put xs at ys) i d ≡ getD xs i d
+  above : (xs : List A) (at : ℕ) (ys : List A) (i : ℕ) (d : A) → at + length ys ≤ i → at + length ys ≤ length xs
+      → getD (put xs at ys) i d ≡ getD xs i d
   unfolding put
   above xs zero ys i d h l = behind ys xs i d (omega arith) (omega arith)
   above [] (suc at) ys i d h l = absurd (omega arith)
@@ -38,7 +39,8 @@ module _ {A : Type 0} where
   above (x ∷ xs) (suc at) ys (suc i) d h l = above xs at ys i d (omega arith) (omega arith)
 
   -- outside the run that was put nothing changes
-  pub put-outside : (xs : List A) (at : ℕ) (ys : List A) (i : ℕ) (d : A) → Outside at (length ys) i → at + length ys ≤ length xs → getD (put xs at ys) i d ≡ getD xs i d
+  pub put-outside : (xs : List A) (at : ℕ) (ys : List A) (i : ℕ) (d : A) → Outside at (length ys) i → at + length ys ≤ length xs
+      → getD (put xs at ys) i d ≡ getD xs i d
   put-outside xs at ys i d out l = ⊎-elim (λ h. below xs at ys i d h (omega arith)) (λ h. above xs at ys i d h l) out
 
   -- behind a list's end
@@ -56,11 +58,14 @@ module _ {A : Type 0} where
   getD-run xs at n i d h = getD-take n (drop at xs) i d h ∙ getD-drop at xs i d
 
   -- two lists of one length that agree in a run's places have the same run
-  pub run-same : (xs zs : List A) (at n : ℕ) (d : A) → length xs ≡ length zs → ((i : ℕ) → i < n → getD xs (at + i) d ≡ getD zs (at + i) d) → run xs at n ≡ run zs at n
+  pub run-same : (xs zs : List A) (at n : ℕ) (d : A) → length xs ≡ length zs
+      → ((i : ℕ) → i < n → getD xs (at + i) d ≡ getD zs (at + i) d) → run xs at n ≡ run zs at n
   run-same xs zs at n d e f =
       ext-getD d (run xs at n) (run zs at n)
       (simp (length-take, length-drop, e))
-      (λ i k. let h : i < n = omega (arith, simp (length-take, length-drop) at k) in getD-run xs at n i d h ∙ f i h ∙ sym (getD-run zs at n i d h))
+      (λ i k.
+      let h : i < n = omega (arith, simp (length-take, length-drop) at k) in
+      getD-run xs at n i d h ∙ f i h ∙ sym (getD-run zs at n i d h))
 
   -- the run that was put
   pub run-put : (xs : List A) (at : ℕ) (ys : List A) → at ≤ length xs → run (put xs at ys) at (length ys) ≡ ys

@@ -1,4 +1,5 @@
--- What show and its companion say after every list of calls: filled for a slot that has been used, with the coordinates defined for it, and empty for any other. Assumes nothing.
+-- What show and its companion say after every list of calls: filled for a slot that has been used, with the coordinates defined for it,
+-- and empty for any other. Assumes nothing.
 use mathlib.Core.Path.{_≡_, refl, ap, _∙_}
 use mathlib.Core.Bool.{Bool, true, false}
 use mathlib.Core.List.{List, []}
@@ -17,52 +18,57 @@ use Rattle.stores.specs.Slots.{filled, faceRun, sphereRun}
 use Rattle.show.specs.Show.{named, slotsIn, widthIn, slotGiven, whereFilled, partShown}
 use Rattle.show.specs.declared.StoreKind.{StoreKind}
 use Rattle.show.specs.declared.StoreKind.the-variants as kind
-use Rattle.histories.specs.Lists.{Buffers, Call, openOn}
+use Rattle.set.specs.Set.{Set}
+use Rattle.set.specs.Open.{openGiven}
+use Rattle.origin.specs.Origins.{ORIGINS}
+use Rattle.histories.specs.Lists.{Call}
 use Rattle.histories.specs.Defined.{sphereDefined}
-use Rattle.histories.specs.EveryList.{left, sinceOpen}
+use Rattle.histories.specs.EveryList.{left, lastOpen}
 use Rattle.histories.proofs.Stores.{slot-run}
-use Rattle.histories.proofs.Theorem.{every-list}
+use Rattle.histories.proofs.Told.{sinceOpen}
+use Rattle.histories.proofs.Theorem.{good-left, face-mark, sphere-mark, face-slot, sphere-triangle}
 
 -- the companion's answer, and show's part, on a set
-abbrev pub stateOn : Buffers → StoreKind → ℕ → Given Bool
-stateOn s kind k = slotGiven (s .face) (s .sphere) kind k
+abbrev pub stateOn : Set → StoreKind → ℕ → Given Bool
+stateOn s kind k = slotGiven (s .faces) (s .spheres) kind k
 
-abbrev pub shownOn : Buffers → StoreKind → ℕ → List Float
-shownOn s kind k = partShown (s .face) (s .sphere) kind k
+abbrev pub shownOn : Set → StoreKind → ℕ → List Float
+shownOn s kind k = partShown (s .faces) (s .spheres) kind k
 
 -- where the lengths are right and the slot is there, the companion looks at the mark
-state-is : (s : Buffers) (which : StoreKind) (k : ℕ) (b : Bool) → length (s .face) ≡ FACE-STORE → length (s .sphere) ≡ SPHERE-STORE → k < slotsIn which
-    → filled (named which (s .face) (s .sphere)) (k * widthIn which) ≡ b → stateOn s which k ≡ answered b
+state-is : (s : Set) (which : StoreKind) (k : ℕ) (b : Bool) → length (s .faces) ≡ FACE-STORE → length (s .spheres) ≡ SPHERE-STORE → k < slotsIn which
+    → filled (named which (s .faces) (s .spheres)) (k * widthIn which) ≡ b → stateOn s which k ≡ answered b
 unfolding slotGiven
 state-is s which k b f g h e = rw (f, g, lt-leb (slotsIn which) k h, e)
 
-part-is : (s : Buffers) (which : StoreKind) (k : ℕ) (b : Bool) → stateOn s which k ≡ answered b
-    → shownOn s which k ≡ whereFilled (answered b) (slots.run (named which (s .face) (s .sphere)) (k * widthIn which + 1) (widthIn which - 1))
+part-is : (s : Set) (which : StoreKind) (k : ℕ) (b : Bool) → stateOn s which k ≡ answered b
+    → shownOn s which k ≡ whereFilled (answered b) (slots.run (named which (s .faces) (s .spheres)) (k * widthIn which + 1) (widthIn which - 1))
 unfolding partShown
 part-is s which k b e = rw e
 
-module _ (b : Buffers) (ready : openOn b ≡ passed) (cs : List Call) where
+module _ (b : Set) (ready : openGiven ieee ORIGINS b ≡ passed) (cs : List Call) where
   pub face-state : (k : ℕ) → k < FACE-SLOTS → stateOn (left b cs) kind.Face k ≡ answered (sinceOpen b cs .faces k)
   face-state k h =
-      let l = every-list b ready cs in
-      state-is (left b cs) kind.Face k _ (l .face-length) (l .sphere-length) h (l .face-filled k h)
+      let good = good-left b ready cs in
+      state-is (left b cs) kind.Face k _ (good .face-long) (good .sphere-long) h (face-mark b ready cs k h)
 
   pub sphere-state : (k : ℕ) → k < SPHERE-SLOTS → stateOn (left b cs) kind.Sphere k ≡ answered (sinceOpen b cs .spheres k)
   sphere-state k h =
-      let l = every-list b ready cs in
-      state-is (left b cs) kind.Sphere k _ (l .face-length) (l .sphere-length) h (l .sphere-filled k h)
+      let good = good-left b ready cs in
+      state-is (left b cs) kind.Sphere k _ (good .face-long) (good .sphere-long) h (sphere-mark b ready cs k h)
 
   -- a used slot's part is the triangle defined for it
   pub face-shown : (k : ℕ) → k < FACE-SLOTS → sinceOpen b cs .faces k ≡ true → shownOn (left b cs) kind.Face k ≡ faceRun (faceTriangle ieee k)
   face-shown k h u =
       part-is (left b cs) kind.Face k true (face-state k h ∙ ap answered u)
-      ∙ slot-run FACE-WIDTH (left b cs .face) k (omega arith) 6 _ refl (every-list b ready cs .face-holds k h u)
+      ∙ slot-run FACE-WIDTH (left b cs .faces) k (omega arith) 6 _ refl (face-slot b ready cs k true h u)
 
   pub sphere-shown : (k : ℕ) → k < SPHERE-SLOTS → sinceOpen b cs .spheres k ≡ true
-      → (t : SphericalTriangle) × (sphereDefined (sinceOpen b cs .frame) k ≡ answered t) × (shownOn (left b cs) kind.Sphere k ≡ sphereRun t)
+      → (t : SphericalTriangle) × (sphereDefined (lastOpen b cs .frame) k ≡ answered t) × (shownOn (left b cs) kind.Sphere k ≡ sphereRun t)
   sphere-shown k h u =
-      let t = every-list b ready cs .sphere-holds k h u in
-      (t .0, t .1, part-is (left b cs) kind.Sphere k true (sphere-state k h ∙ ap answered u) ∙ slot-run SPHERE-WIDTH (left b cs .sphere) k (omega arith) 9 _ refl (t .2))
+      let t = sphere-triangle b ready cs k h u in
+      let part = part-is (left b cs) kind.Sphere k true (sphere-state k h ∙ ap answered u) in
+      (t .0, t .1, part ∙ slot-run SPHERE-WIDTH (left b cs .spheres) k (omega arith) 9 _ refl (t .2))
 
   -- and any other's is empty
   pub face-not-shown : (k : ℕ) → k < FACE-SLOTS → sinceOpen b cs .faces k ≡ false → shownOn (left b cs) kind.Face k ≡ []

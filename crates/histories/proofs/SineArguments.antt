@@ -29,7 +29,7 @@ sine-arguments =
     record {
       latitude = latitude-inside;
       to-lon-lat = passed-colatitude;
-      unplace = λ frame face sphere f o w e. inverse-colatitude ORIGINS frame face sphere f o w e;
+      unplace = λ s f o w e. inverse-colatitude ORIGINS s f o w e;
       forward = passed-inside;
       place = from-lon-lat-inside;
       center = axis-inside;

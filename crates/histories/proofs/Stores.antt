@@ -1,4 +1,5 @@
--- A store of marked slots, over its width, how many slots it has and what is defined for each: a slot that is kept, and a slot that is read. Assumes nothing.
+-- A store of marked slots, over its width, how many slots it has and what is defined for each: a slot that is written, and a slot that is
+-- read. Assumes nothing.
 use mathlib.Core.Path.{_≡_, refl, sym, ap, _∙_}
 use mathlib.Core.Bool.{Bool, true, false, cond, _||_, or-true, or-false}
 use mathlib.Core.List.{List, _∷_}
@@ -11,44 +12,44 @@ use lib.ListN.{length, getD, drop, replicate}
 use lib.Ieee.{Float, nan, eq, ofBits}
 use borrow.Author.Tests.{eq-eqb, ne-eqb}
 use Rattle.arithmetic.specs.Numbers.{0·0, 1·0}
-use Rattle.stores.specs.Slots.{run, put, filled, keep}
+use Rattle.stores.specs.Slots.{run, put, filled, slotWritten}
 use Rattle.stores.proofs.Runs.{length-put}
 use Rattle.histories.specs.Since.{Slots}
 use Rattle.histories.specs.Defined.{slotAt}
 use Rattle.histories.proofs.Runs.{Outside, put-outside, getD-beyond, getD-run, run-same, run-put, run-tail, other-slot}
 
--- ---- keeping a slot, whatever the store holds
+-- ---- a slot that is written, whatever the store holds
 
 module _ (w : ℕ) (xs : List Float) (k : ℕ) (ys : List Float) (size : suc (length ys) ≡ w) (fits : k * w + w ≤ length xs) where
-  abbrev kept : List Float
-  kept = keep w xs k ys
+  abbrev written : List Float
+  written = slotWritten w xs k ys
 
-  pub keep-length : length kept ≡ length xs
-  unfolding keep
-  keep-length = go (filled xs (k * w))
+  pub written-length : length written ≡ length xs
+  unfolding slotWritten
+  written-length = go (filled xs (k * w))
     where
       go : (b : Bool) → length (cond b xs (put xs (k * w) (1·0 ∷ ys))) ≡ length xs
       go true = refl
       go false = length-put xs (k * w) (1·0 ∷ ys) (omega arith)
 
-  keep-same : slotAt w kept k ≡ cond (filled xs (k * w)) (slotAt w xs k) (1·0 ∷ ys)
-  unfolding keep
-  keep-same = go (filled xs (k * w))
+  written-same : slotAt w written k ≡ cond (filled xs (k * w)) (slotAt w xs k) (1·0 ∷ ys)
+  unfolding slotWritten
+  written-same = go (filled xs (k * w))
     where
       go : (b : Bool) → slotAt w (cond b xs (put xs (k * w) (1·0 ∷ ys))) k ≡ cond b (slotAt w xs k) (1·0 ∷ ys)
       go true = refl
       go false = ap (run (put xs (k * w) (1·0 ∷ ys)) (k * w)) (sym size) ∙ run-put xs (k * w) (1·0 ∷ ys) (omega arith)
 
-  pub keep-outside : (i : ℕ) → Outside (k * w) w i → getD kept i nan ≡ getD xs i nan
-  unfolding keep
-  keep-outside i out = go (filled xs (k * w))
+  pub written-outside : (i : ℕ) → Outside (k * w) w i → getD written i nan ≡ getD xs i nan
+  unfolding slotWritten
+  written-outside i out = go (filled xs (k * w))
     where
       go : (b : Bool) → getD (cond b xs (put xs (k * w) (1·0 ∷ ys))) i nan ≡ getD xs i nan
       go true = refl
       go false = put-outside xs (k * w) (1·0 ∷ ys) i nan (rw size out) (omega arith)
 
-  pub keep-other : (j : ℕ) → (j ≡ k → ⊥) → slotAt w kept j ≡ slotAt w xs j
-  keep-other j ne = run-same kept xs (j * w) w nan keep-length (λ i h. keep-outside (j * w + i) (other-slot w j k i ne h))
+  pub written-other : (j : ℕ) → (j ≡ k → ⊥) → slotAt w written j ≡ slotAt w xs j
+  written-other j ne = run-same written xs (j * w) w nan written-length (λ i h. written-outside (j * w + i) (other-slot w j k i ne h))
 
 -- ---- a slot that is known to hold its mark and a run, or nothing but 0.0
 
@@ -71,7 +72,9 @@ nan-empty = refl
 module _ (w : ℕ) (xs : List Float) (k : ℕ) (positive : 0 < w) where
   mark-at : filled xs (k * w) ≡ eq (getD (slotAt w xs k) 0 nan) 1·0
   unfolding filled
-  mark-at = ap (λ (x : Float). eq x 1·0) (ap (λ (i : ℕ). getD xs i nan) (sym (add-zero (k * w))) ∙ sym (getD-run xs (k * w) w 0 nan positive))
+  mark-at =
+      let first = ap (λ (i : ℕ). getD xs i nan) (sym (add-zero (k * w))) ∙ sym (getD-run xs (k * w) w 0 nan positive) in
+      ap (λ (x : Float). eq x 1·0) first
 
   pub slot-filled : (b : Bool) (r : List Float) → slotAt w xs k ≡ slotOf b w r → filled xs (k * w) ≡ b
   slot-filled true r e = mark-at ∙ ap (λ (l : List Float). eq (getD l 0 nan) 1·0) e ∙ one-marks
@@ -90,25 +93,25 @@ beyond-empty xs i h = ap (λ (x : Float). eq x 1·0) (getD-beyond xs i nan h) �
 abbrev pub Holds : ℕ → ℕ → (ℕ → List Float) → Slots → List Float → Type 0
 Holds w n runs u xs = (k : ℕ) → k < n → slotAt w xs k ≡ slotOf (u k) w (runs k)
 
--- a slot that is kept has been used, and nothing else changes
-module _ (w n : ℕ) (runs : ℕ → List Float) (u : Slots) (xs : List Float) (long : length xs ≡ n * w) (holds : Holds w n runs u xs) (k : ℕ) (inside : k < n)
-    (size : suc (length (runs k)) ≡ w) where
+-- a slot that is written has been used, and nothing else changes
+module _ (w n : ℕ) (runs : ℕ → List Float) (u : Slots) (xs : List Float) (long : length xs ≡ n * w) (holds : Holds w n runs u xs)
+    (k : ℕ) (inside : k < n) (size : suc (length (runs k)) ≡ w) where
   fits : k * w + w ≤ length xs
   fits = omega (arith, mul-le-mul-right w inside)
 
-  pub kept-long : length (keep w xs k (runs k)) ≡ n * w
-  kept-long = keep-length w xs k (runs k) size fits ∙ long
+  pub written-long : length (slotWritten w xs k (runs k)) ≡ n * w
+  written-long = written-length w xs k (runs k) size fits ∙ long
 
-  kept-slot : slotAt w (keep w xs k (runs k)) k ≡ 1·0 ∷ runs k
-  kept-slot = keep-same w xs k (runs k) size fits ∙ go (u k) (holds k inside)
+  written-slot : slotAt w (slotWritten w xs k (runs k)) k ≡ 1·0 ∷ runs k
+  written-slot = written-same w xs k (runs k) size fits ∙ go (u k) (holds k inside)
     where
       go : (b : Bool) → slotAt w xs k ≡ slotOf b w (runs k) → cond (filled xs (k * w)) (slotAt w xs k) (1·0 ∷ runs k) ≡ 1·0 ∷ runs k
       go true e = rw (slot-filled w xs k (omega arith) true (runs k) e) e
       go false e = rw (slot-filled w xs k (omega arith) false (runs k) e)
 
-  pub kept-holds : Holds w n runs (λ j. u j || eqb j k) (keep w xs k (runs k))
-  kept-holds j h = go (ℕ-discrete j k)
+  pub written-holds : Holds w n runs (λ j. u j || eqb j k) (slotWritten w xs k (runs k))
+  written-holds j h = go (ℕ-discrete j k)
     where
-      go : Dec (j ≡ k) → slotAt w (keep w xs k (runs k)) j ≡ slotOf (u j || eqb j k) w (runs j)
-      go (yes e) = rw (e, eq-eqb k k refl, or-true) kept-slot
-      go (no ne) = rw (ne-eqb j k ne, or-false) (keep-other w xs k (runs k) size fits j ne ∙ holds j h)
+      go : Dec (j ≡ k) → slotAt w (slotWritten w xs k (runs k)) j ≡ slotOf (u j || eqb j k) w (runs j)
+      go (yes e) = rw (e, eq-eqb k k refl, or-true) written-slot
+      go (no ne) = rw (ne-eqb j k ne, or-false) (written-other w xs k (runs k) size fits j ne ∙ holds j h)

@@ -1,4 +1,5 @@
--- What holds of a set after every list of calls, and that the triangles which a call then takes are those that are defined. Assumes nothing.
+-- What holds of a set after every list of calls, and that the triangles which a call then takes are those that are defined. Assumes
+-- nothing.
 use mathlib.Core.Path.{_≡_, refl, sym, ap}
 use mathlib.Core.Bool.{Bool, true, false, cond}
 use mathlib.Core.List.{List, [], _∷_}
@@ -6,7 +7,7 @@ use Prim.Native.Nat.{ℕ, _+_, _*_, _/_, _%_, _<_}
 use native.Mathlib.Decide.{decLt}
 use native.Mathlib.Omega.{arith}
 use lib.Dec.{leb}
-use lib.ListN.{length, replicate, length-replicate}
+use lib.ListN.{length, length-replicate}
 use lib.Ieee.{Float}
 use borrow.Author.Tests.{le-leb, lt-leb}
 use Rattle.answer.specs.Given.{Given, answered, refused}
@@ -18,13 +19,14 @@ use Rattle.tiling.specs.FaceTriangles.{faceTriangle}
 use Rattle.crs.specs.Frame.{frameRows}
 use Rattle.set.specs.Sizes.{FACE-SLOTS, FACE-WIDTH, FACE-STORE, SPHERE-SLOTS, SPHERE-WIDTH, SPHERE-STORE}
 use Rattle.stores.specs.Slots.{run, filled, faceRun, faceIn, sphereRun, sphereIn}
-use Rattle.stores.specs.Used.{sourceSlot, sphereSlot}
+use Rattle.stores.specs.Slots.{sourceSlot, sphereSlot}
 use Rattle.stores.proofs.Within.{sphere-below}
+use Rattle.set.specs.Open.{newSet}
 use Rattle.triangles.specs.Triangles.{faceTaken, sphereBuilt, sphereTaken}
-use Rattle.histories.specs.Lists.{Buffers}
-use Rattle.histories.specs.Since.{Since, newly}
+use Rattle.set.specs.Set.{Set}
 use Rattle.histories.specs.Defined.{sphereDefined, slotAt}
 use Rattle.histories.proofs.Runs.{length-run, run-replicate}
+use Rattle.histories.proofs.Told.{Since, newly}
 use Rattle.histories.proofs.Stores.{slotOf, slot-filled, slot-run, beyond-empty, Holds}
 
 -- ---- what a slot is defined to hold behind its mark
@@ -42,17 +44,17 @@ sphereCoordinates frame k = runOf (sphereDefined frame k)
 
 -- ---- the set after every list
 
-pub record Good (w : Since) (s : Buffers) : Type 0 where
+pub record Good (w : Since) (s : Set) : Type 0 where
   pub rows : w .frame ≡ frameRows ieee ORIGINS
   pub frame : s .frame ≡ w .frame
-  pub face-long : length (s .face) ≡ FACE-STORE
-  pub sphere-long : length (s .sphere) ≡ SPHERE-STORE
-  pub face : Holds FACE-WIDTH FACE-SLOTS faceCoordinates (w .faces) (s .face)
-  pub sphere : Holds SPHERE-WIDTH SPHERE-SLOTS (sphereCoordinates (w .frame)) (w .spheres) (s .sphere)
+  pub face-long : length (s .faces) ≡ FACE-STORE
+  pub sphere-long : length (s .spheres) ≡ SPHERE-STORE
+  pub face : Holds FACE-WIDTH FACE-SLOTS faceCoordinates (w .faces) (s .faces)
+  pub sphere : Holds SPHERE-WIDTH SPHERE-SLOTS (sphereCoordinates (w .frame)) (w .spheres) (s .spheres)
 
 -- a newly opened set
-abbrev pub fresh : Buffers
-fresh = record { frame = frameRows ieee ORIGINS; face = replicate FACE-STORE 0·0; sphere = replicate SPHERE-STORE 0·0 }
+abbrev pub fresh : Set
+fresh = newSet ieee ORIGINS
 
 pub fresh-good : Good (newly fresh) fresh
 fresh-good =
@@ -66,10 +68,6 @@ fresh-good =
     }
 
 -- ---- slot numbers
-
-pub source-below : (i : ℕ) (r : Bool) → i < 10 → sourceSlot i r < FACE-SLOTS
-source-below i true h = omega arith
-source-below i false h = omega arith
 
 -- a sphere slot's number tells its origin, its index and whether it is reflected
 pub slot-defined : (frame : List Float) (o i : ℕ) (r : Bool) → o < 12 → i < 10
@@ -90,25 +88,26 @@ slot-defined frame o i false g h =
 
 -- ---- what a call takes
 
-module _ (w : Since) (s : Buffers) (good : Good w s) where
+module _ (w : Since) (s : Set) (good : Good w s) where
   -- the slot's number may be any
-  pub face-taken : (k : ℕ) → faceTaken ieee (s .face) k ≡ faceTriangle ieee k
+  pub face-taken : (k : ℕ) → faceTaken ieee (s .faces) k ≡ faceTriangle ieee k
   unfolding faceTaken
   face-taken k = by (decLt k FACE-SLOTS)
     where
       taken : Bool → Type 0
-      taken b = cond b (faceIn (run (s .face) (k * FACE-WIDTH + 1) 6)) (faceTriangle ieee k) ≡ faceTriangle ieee k
+      taken b = cond b (faceIn (run (s .faces) (k * FACE-WIDTH + 1) 6)) (faceTriangle ieee k) ≡ faceTriangle ieee k
 
-      inside : (b : Bool) → slotAt FACE-WIDTH (s .face) k ≡ slotOf b FACE-WIDTH (faceCoordinates k) → taken (filled (s .face) (k * FACE-WIDTH))
-      inside true e = rw (slot-filled FACE-WIDTH (s .face) k (omega arith) true _ e) (ap faceIn (slot-run FACE-WIDTH (s .face) k (omega arith) 6 _ refl e))
-      inside false e = rw (slot-filled FACE-WIDTH (s .face) k (omega arith) false (faceCoordinates k) e)
+      inside : (b : Bool) → slotAt FACE-WIDTH (s .faces) k ≡ slotOf b FACE-WIDTH (faceCoordinates k) → taken (filled (s .faces) (k * FACE-WIDTH))
+      inside true e =
+          rw (slot-filled FACE-WIDTH (s .faces) k (omega arith) true _ e) (ap faceIn (slot-run FACE-WIDTH (s .faces) k (omega arith) 6 _ refl e))
+      inside false e = rw (slot-filled FACE-WIDTH (s .faces) k (omega arith) false (faceCoordinates k) e)
 
-      by : Dec (k < FACE-SLOTS) → taken (filled (s .face) (k * FACE-WIDTH))
+      by : Dec (k < FACE-SLOTS) → taken (filled (s .faces) (k * FACE-WIDTH))
       by (yes h) = inside (w .faces k) (good .face k h)
-      by (no g) = rw (beyond-empty (s .face) (k * FACE-WIDTH) (omega (arith, good .face-long)))
+      by (no g) = rw (beyond-empty (s .faces) (k * FACE-WIDTH) (omega (arith, good .face-long)))
 
   pub sphere-taken : (o i : ℕ) (r : Bool) → o < 12 → i < 10
-      → sphereTaken ieee (s .frame) (s .face) (s .sphere) (originAt ORIGINS o) (sphereSlot o i r) (sourceSlot i r) ≡ sphereDefined (w .frame) (sphereSlot o i r)
+      → sphereTaken ieee s (originAt ORIGINS o) (sphereSlot o i r) (sourceSlot i r) ≡ sphereDefined (w .frame) (sphereSlot o i r)
   unfolding sphereTaken
   sphere-taken o i r g h = go (w .spheres k) (good .sphere k below)
     where
@@ -119,16 +118,23 @@ module _ (w : Since) (s : Buffers) (good : Good w s) where
       below = sphere-below o i r g h
 
       built : Given SphericalTriangle
-      built = sphereBuilt ieee (s .frame) (originAt ORIGINS o) (faceTaken ieee (s .face) (sourceSlot i r))
+      built = sphereBuilt ieee (s .frame) (originAt ORIGINS o) (faceTaken ieee (s .faces) (sourceSlot i r))
 
       built-is : built ≡ sphereDefined (w .frame) k
       built-is = rw (good .frame, face-taken (sourceSlot i r)) (sym (slot-defined (w .frame) o i r g h))
 
-      read : (d : Given SphericalTriangle) → slotAt SPHERE-WIDTH (s .sphere) k ≡ 1·0 ∷ runOf d → answered (sphereIn (run (s .sphere) (k * SPHERE-WIDTH + 1) 9)) ≡ d
-      read (answered t) e = ap (λ (l : List Float). answered (sphereIn l)) (slot-run SPHERE-WIDTH (s .sphere) k (omega arith) 9 _ refl e)
-      read (refused n) e = absurd (omega (arith, ap length e, length-run (s .sphere) (k * SPHERE-WIDTH) SPHERE-WIDTH (omega (arith, below, good .sphere-long))))
+      held : Given SphericalTriangle
+      held = answered (sphereIn (run (s .spheres) (k * SPHERE-WIDTH + 1) 9))
 
-      go : (b : Bool) → slotAt SPHERE-WIDTH (s .sphere) k ≡ slotOf b SPHERE-WIDTH (sphereCoordinates (w .frame) k)
-          → cond (filled (s .sphere) (k * SPHERE-WIDTH)) (answered (sphereIn (run (s .sphere) (k * SPHERE-WIDTH + 1) 9))) built ≡ sphereDefined (w .frame) k
-      go true e = rw (slot-filled SPHERE-WIDTH (s .sphere) k (omega arith) true _ e) (read (sphereDefined (w .frame) k) e)
-      go false e = rw (slot-filled SPHERE-WIDTH (s .sphere) k (omega arith) false (sphereCoordinates (w .frame) k) e) built-is
+      long : length (slotAt SPHERE-WIDTH (s .spheres) k) ≡ SPHERE-WIDTH
+      long = length-run (s .spheres) (k * SPHERE-WIDTH) SPHERE-WIDTH (omega (arith, below, good .sphere-long))
+
+      read : (d : Given SphericalTriangle) → slotAt SPHERE-WIDTH (s .spheres) k ≡ 1·0 ∷ runOf d → held ≡ d
+      read (answered t) e = ap (λ (l : List Float). answered (sphereIn l)) (slot-run SPHERE-WIDTH (s .spheres) k (omega arith) 9 _ refl e)
+      read (refused n) e = absurd (omega (arith, ap length e, long))
+
+      go : (b : Bool) → slotAt SPHERE-WIDTH (s .spheres) k ≡ slotOf b SPHERE-WIDTH (sphereCoordinates (w .frame) k)
+          → cond (filled (s .spheres) (k * SPHERE-WIDTH)) held built ≡ sphereDefined (w .frame) k
+      go true e = rw (slot-filled SPHERE-WIDTH (s .spheres) k (omega arith) true _ e) (read (sphereDefined (w .frame) k) e)
+      go false e =
+          rw (slot-filled SPHERE-WIDTH (s .spheres) k (omega arith) false (sphereCoordinates (w .frame) k) e) built-is

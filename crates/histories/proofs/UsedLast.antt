@@ -1,5 +1,5 @@
--- The slots that the theorem counts as used, said once more apart from how they are told along a list: a slot has been used exactly when some call of the list uses it and no open after that
--- call answers. Assumes nothing.
+-- The slots told along a list are those that `UsedLast` says: some call of the list uses the slot, and no open after that call answers.
+-- Assumes nothing.
 use mathlib.Core.Path.{_≡_, refl, sym, _∙_}
 use mathlib.Core.Logic.{_⊎_, inl, inr, ⊎-elim, _↔_}
 use mathlib.Core.Bool.{Bool, true, false, cond, _||_, or-true, or-false, false≢true}
@@ -7,10 +7,11 @@ use mathlib.Core.List.{List, [], _∷_}
 use Prim.Native.Nat.{ℕ}
 use Rattle.answer.specs.Given.{Given, answered, refused}
 use Rattle.stores.specs.declared.used.Used.{Used}
-use Rattle.histories.specs.Lists.{Buffers, Call, Effect, writes, uses, reads, effect, step}
-use Rattle.histories.specs.Since.{Slots, facesOf, spheresOf, usedBy, facesUsed, spheresUsed, Since, newly, counted, since}
-use Rattle.histories.specs.EveryList.{opened, sinceOpen}
-use Rattle.histories.specs.Consequences.{isOpened, NoneOpened, UsedLast, here, later}
+use Rattle.set.specs.Set.{Set}
+use Rattle.histories.specs.Lists.{Call, Effect, writes, uses, reads, effect, step}
+use Rattle.histories.specs.Since.{Slots, facesOf, spheresOf, usedBy, facesUsed, spheresUsed, isOpened, NoneOpened, UsedLast, here, later}
+use Rattle.histories.specs.EveryList.{opened}
+use Rattle.histories.proofs.Told.{Since, newly, counted, since, sinceOpen}
 
 -- one of two has to hold
 either : (a b : Bool) → (a || b) ≡ true → (a ≡ true) ⊎ (b ≡ true)
@@ -18,12 +19,12 @@ either true b e = inl refl
 either false b e = inr e
 
 -- over one store: its slots in what is told, and those that an answer uses
-module _ (pick : Since → Slots) (of : Given Used → Slots) (k : ℕ) (fresh : (s : Buffers) → pick (newly s) k ≡ false)
-    (adds : (w : Since) (g : Given Used) (s : Buffers) → pick (counted w (uses g) s) k ≡ (pick w k || of g k)) where
+module _ (pick : Since → Slots) (of : Given Used → Slots) (k : ℕ) (fresh : (s : Set) → pick (newly s) k ≡ false)
+    (adds : (w : Since) (g : Given Used) (s : Set) → pick (counted w (uses g) s) k ≡ (pick w k || of g k)) where
   abbrev used : Effect → Slots
   used = usedBy of
 
-  next : (w : Since) (e : Effect) (s : Buffers) → pick (counted w e s) k ≡ cond (isOpened e) false (pick w k || used e k)
+  next : (w : Since) (e : Effect) (s : Set) → pick (counted w e s) k ≡ cond (isOpened e) false (pick w k || used e k)
   next w (writes (answered u)) s = fresh s
   next w (writes (refused n)) s = sym (or-false (pick w k))
   next w (uses g) s = adds w g s
@@ -35,7 +36,8 @@ module _ (pick : Since → Slots) (of : Given Used → Slots) (k : ℕ) (fresh :
   opens-none reads e = refl
 
   -- from what is told: used before the list, with no open in it, or by a call of it
-  from-told : (cs : List Call) (w : Since) (s : Buffers) → pick (since w s cs) k ≡ true → ((pick w k ≡ true) × NoneOpened s cs) ⊎ UsedLast used k s cs
+  from-told : (cs : List Call) (w : Since) (s : Set) → pick (since w s cs) k ≡ true
+      → ((pick w k ≡ true) × NoneOpened s cs) ⊎ UsedLast used k s cs
   from-told [] w s e = inl (e, tt)
   from-told (c ∷ cs) w s e =
       ⊎-elim
@@ -43,24 +45,27 @@ module _ (pick : Since → Slots) (of : Given Used → Slots) (k : ℕ) (fresh :
       (λ p. inr (later p))
       (from-told cs (counted w (effect s c) (step s c)) (step s c) e)
     where
-      before : (b : Bool) → isOpened (effect s c) ≡ b → cond (isOpened (effect s c)) false (pick w k || used (effect s c) k) ≡ true → NoneOpened (step s c) cs
+      before : (b : Bool) → isOpened (effect s c) ≡ b → cond (isOpened (effect s c)) false (pick w k || used (effect s c) k) ≡ true
+          → NoneOpened (step s c) cs
           → ((pick w k ≡ true) × NoneOpened s (c ∷ cs)) ⊎ UsedLast used k s (c ∷ cs)
       before true o e none = absurd (false≢true (rw o at e))
       before false o e none = ⊎-elim (λ p. inl (p, (o, none))) (λ p. inr (here p none)) (either (pick w k) (used (effect s c) k) (rw o at e))
 
   -- and back
-  to-told-before : (cs : List Call) (w : Since) (s : Buffers) → pick w k ≡ true → NoneOpened s cs → pick (since w s cs) k ≡ true
+  to-told-before : (cs : List Call) (w : Since) (s : Set) → pick w k ≡ true → NoneOpened s cs → pick (since w s cs) k ≡ true
   to-told-before [] w s e none = e
   to-told-before (c ∷ cs) w s e none =
       to-told-before cs (counted w (effect s c) (step s c)) (step s c) (next w (effect s c) (step s c) ∙ rw (none .0, e)) (none .1)
 
-  to-told : (cs : List Call) (w : Since) (s : Buffers) → UsedLast used k s cs → pick (since w s cs) k ≡ true
+  to-told : (cs : List Call) (w : Since) (s : Set) → UsedLast used k s cs → pick (since w s cs) k ≡ true
   to-told (c ∷ cs) w s (here e none) =
-      to-told-before cs (counted w (effect s c) (step s c)) (step s c) (next w (effect s c) (step s c) ∙ rw (opens-none (effect s c) e, e) (or-true (pick w k))) none
+      let used-now : pick (counted w (effect s c) (step s c)) k ≡ true =
+      next w (effect s c) (step s c) ∙ rw (opens-none (effect s c) e, e) (or-true (pick w k)) in
+      to-told-before cs (counted w (effect s c) (step s c)) (step s c) used-now none
   to-told (c ∷ cs) w s (later l) = to-told cs (counted w (effect s c) (step s c)) (step s c) l
 
   -- from a newly opened set, on which none has been used
-  told : (b : Buffers) (cs : List Call) → (pick (sinceOpen b cs) k ≡ true) ↔ UsedLast used k (opened b) cs
+  told : (b : Set) (cs : List Call) → (pick (sinceOpen b cs) k ≡ true) ↔ UsedLast used k (opened b) cs
   told b cs = (
     (λ e. ⊎-elim (λ p. absurd (false≢true (sym (fresh (opened b)) ∙ p .0))) (λ l. l) (from-told cs (newly (opened b)) (opened b) e)),
     to-told cs (newly (opened b)) (opened b),
@@ -68,8 +73,8 @@ module _ (pick : Since → Slots) (of : Given Used → Slots) (k : ℕ) (fresh :
 
 -- ---- both stores
 
-pub face-used-last : (b : Buffers) (cs : List Call) (k : ℕ) → (sinceOpen b cs .faces k ≡ true) ↔ UsedLast facesUsed k (opened b) cs
+pub face-used-last : (b : Set) (cs : List Call) (k : ℕ) → (sinceOpen b cs .faces k ≡ true) ↔ UsedLast facesUsed k (opened b) cs
 face-used-last b cs k = told (λ w. w .faces) facesOf k (λ s. refl) (λ w g s. refl) b cs
 
-pub sphere-used-last : (b : Buffers) (cs : List Call) (k : ℕ) → (sinceOpen b cs .spheres k ≡ true) ↔ UsedLast spheresUsed k (opened b) cs
+pub sphere-used-last : (b : Set) (cs : List Call) (k : ℕ) → (sinceOpen b cs .spheres k ≡ true) ↔ UsedLast spheresUsed k (opened b) cs
 sphere-used-last b cs k = told (λ w. w .spheres) spheresOf k (λ s. refl) (λ w g s. refl) b cs

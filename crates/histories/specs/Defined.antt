@@ -1,6 +1,7 @@
--- Document 01, "Triangles and calls": "The triangle defined for a slot never depends on what a store holds". For a face slot it is `faceTriangle` of crate `tiling`; here it is for a sphere
--- slot: "what the Rust builds, with the steps above, from the triangle defined for face slot i (20+i if reflected), i being its index, from its origin, and from the frame that the last
--- answered open wrote". Definitions only.
+-- Document 01, "Triangles and calls": "The triangle defined for a slot never depends on what a store holds". For a face slot it is
+-- `faceTriangle` of crate `tiling`; here it is for a sphere slot: "what the Rust builds, with the steps above, from the triangle defined
+-- for face slot i (20+i if reflected), i being its index, from its origin, and from the frame that the last answered open wrote".
+-- Definitions only.
 use Prim.Native.Nat.{ℕ, _*_, _/_, _%_}
 use mathlib.Core.List.{List}
 use lib.Dec.{leb}
@@ -11,7 +12,7 @@ use Rattle.coordinates.specs.declared.coords.SphericalTriangle.{SphericalTriang
 use Rattle.origin.specs.Origins.{ORIGINS, originAt}
 use Rattle.tiling.specs.FaceTriangles.{faceTriangle}
 use Rattle.stores.specs.Slots as slots
-use Rattle.stores.specs.Used.{sourceSlot}
+use Rattle.stores.specs.Slots.{sourceSlot}
 use Rattle.triangles.specs.Triangles.{sphereBuilt}
 
 -- sphere slot k, which is 10·origin + index, plus 120 if reflected; refused with 8 where a vertex has no row in the frame

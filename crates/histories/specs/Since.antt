@@ -1,14 +1,15 @@
--- "when a call answered since the last successful open, the one the list starts from included, has used it": the slots that have been used, told along a list by what each call gave, and
--- the frame that the last answered open wrote. Definitions only.
+-- "when a call answered since the last successful open, the one the list starts from included, has used it": the slots that a call uses,
+-- those that a list has used and no later open has emptied, and the set that the last answered open has left. Definitions only.
 use Prim.Native.Nat.{ℕ}
-use mathlib.Core.Bool.{Bool, true, false, _||_}
+use mathlib.Core.Path.{_≡_}
+use mathlib.Core.Bool.{Bool, true, false, cond, _||_}
 use mathlib.Core.List.{List, [], _∷_}
 use lib.Dec.{eqb}
-use lib.Ieee.{Float}
 use Rattle.answer.specs.Given.{Given, answered, refused}
-use Rattle.stores.specs.Used.{faceSlot, sourceSlot, sphereSlot}
+use Rattle.set.specs.Set.{Set}
+use Rattle.stores.specs.Slots.{faceSlot, sourceSlot, sphereSlot}
 use Rattle.stores.specs.declared.used.Used.{Used}
-use Rattle.histories.specs.Lists.{Buffers, Call, Effect, writes, uses, reads, effect, step}
+use Rattle.histories.specs.Lists.{Call, Effect, writes, uses, reads, effect, step}
 
 -- some slots of a store, by their numbers
 abbrev pub Slots : Type 0
@@ -44,22 +45,24 @@ spheresUsed = usedBy spheresOf
 
 -- ---- since the last answered open
 
-pub record Since : Type 0 where
-  pub frame : List Float
-  pub faces : Slots
-  pub spheres : Slots
+-- the effect of an open that answered
+abbrev pub isOpened : Effect → Bool
+isOpened (writes (answered u)) = true
+isOpened (writes (refused n)) = false
+isOpened (uses g) = false
+isOpened reads = false
 
--- the set s has just been opened
-abbrev pub newly : Buffers → Since
-newly s = record { frame = s .frame; faces = λ k. false; spheres = λ k. false }
+-- no open of a list answers
+abbrev pub NoneOpened : Set → List Call → Type 0
+NoneOpened s [] = Unit {0}
+NoneOpened s (c ∷ cs) = (isOpened (effect s c) ≡ false) × NoneOpened (step s c) cs
 
--- after one call more, which has left the set s
-abbrev pub counted : Since → Effect → Buffers → Since
-counted w (writes (answered u)) s = newly s
-counted w (writes (refused n)) s = w
-counted w (uses g) s = record { frame = w .frame; faces = λ k. w .faces k || facesOf g k; spheres = λ k. w .spheres k || spheresOf g k }
-counted w reads s = w
+-- One call of a list uses the slot k, and after it no open of the list answers. The slots that an effect uses are those of a store.
+pub data UsedLast (used : Effect → Slots) (k : ℕ) : Set → List Call → Type 0 where
+  here : {s : Set} {c : Call} {cs : List Call} → used (effect s c) k ≡ true → NoneOpened (step s c) cs → UsedLast used k s (c ∷ cs)
+  later : {s : Set} {c : Call} {cs : List Call} → UsedLast used k (step s c) cs → UsedLast used k s (c ∷ cs)
 
-abbrev pub since : Since → Buffers → List Call → Since
-since w s [] = w
-since w s (c ∷ cs) = since (counted w (effect s c) (step s c)) (step s c) cs
+-- the set as the last answered open of a list has left it: t, where none of it answers
+abbrev pub lastOpened : Set → Set → List Call → Set
+lastOpened t s [] = t
+lastOpened t s (c ∷ cs) = lastOpened (cond (isOpened (effect s c)) (step s c) t) (step s c) cs

@@ -4,7 +4,6 @@
 use mathlib.Core.Path.{_≡_}
 use Prim.Native.Nat.{ℕ, _<_}
 use mathlib.Core.Bool.{false}
-use mathlib.Core.List.{List}
 use lib.Ieee.{Float}
 use Rattle.answer.specs.Given.{passed, answered}
 use Rattle.arithmetic.specs.Arith.{Arith, ieee}
@@ -23,7 +22,9 @@ use Rattle.coordinates.specs.declared.spherical.Spherical.{Spherical}
 use Rattle.origin.specs.Constants.{5·0, PI-OVER-5, TWO-PI-OVER-5, INTERHEDRAL-ANGLE}
 use Rattle.origin.specs.Origins.{ORIGINS, originAt}
 use Rattle.tiling.specs.Index.{normalizeGamma}
-use Rattle.dodecahedron.specs.Calls.{Work, inverseCore}
+use Rattle.set.specs.Set.{Set}
+use Rattle.dodecahedron.specs.Work.{Work}
+use Rattle.dodecahedron.specs.Projection.{inverseCore}
 open Arith ieee using (_⊕_, _⊖_, _⊗_, _⊘_, whole)
 
 infixl 60 _⊕_ _⊖_
@@ -47,8 +48,8 @@ pub record SineArguments : Type 0 where
   pub latitude : (p : LonLat) → checkLonLat p ≡ passed → Inside (degToRad ieee (p .latitude) .0)
   pub to-lon-lat : (s : Spherical) → checkSpherical s ≡ passed → Inside (FRAC-PI-2 ⊖ s .phi .0)
   pub unplace :
-      (frame face sphere : List Float) (f : Face) (o : ℕ) (w : Work Spherical) →
-      inverseCore ieee ORIGINS frame face sphere f o ≡ answered w →
+      (s : Set) (f : Face) (o : ℕ) (w : Work Spherical) →
+      inverseCore ieee ORIGINS s f o ≡ answered w →
       Inside (FRAC-PI-2 ⊖ w .answer .phi .0)
   -- ---- to_cartesian: forward; place; face centres; the other candidates of the frame, theta and phi; a corner of a triangle that is built
   pub forward : (s : Spherical) → checkSpherical s ≡ passed → InsideBoth s

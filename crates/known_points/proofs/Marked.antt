@@ -4,14 +4,14 @@ use lib.Ieee.{binary64, add, sub, rem, neg, ofBits}
 use Rattle.arithmetic.specs.Sqrt.{sqrt}
 use Rattle.arithmetic.proofs.Quick.{quick, in-ieee}
 use Rattle.arithmetic.specs.Numbers.{0·0}
-use Rattle.elementary.specs.Whole.{floor, round}
+use Rattle.elementary.specs.Whole.{floor, floorℤ, round}
 use Rattle.coordinates.specs.CoordinateTransforms.{radians, normalizeLongitude}
 use Rattle.origin.specs.Constants.{PI-OVER-5}
-use Rattle.tiling.specs.Index.{asWhole, modulo10, triangleIndex}
+use Rattle.tiling.specs.Index.{modulo10, triangleIndex}
 use Rattle.known_points.specs.Marked.{Marked}
 
 pub marked : Marked
-unfolding normalizeLongitude add sub rem sqrt floor round neg asWhole modulo10 triangleIndex ofBits quick
+unfolding normalizeLongitude add sub rem sqrt floor floorℤ round neg modulo10 triangleIndex ofBits quick
 marked =
     record {
       longitude-of-180 = refl;

@@ -1,4 +1,5 @@
--- Samples of the elementary steps: each value has the bits that document 01's steps give in Python, whose floats are IEEE 754's too. Computed in `quick`. Assumes nothing.
+-- Samples of the elementary steps: each value has the bits that document 01's steps give in Python, whose floats are IEEE 754's too.
+-- Computed in `quick`. Assumes nothing.
 use mathlib.Core.Path.{_≡_, refl}
 use Prim.Native.Nat.{ℕ}
 use lib.Ieee.{Float, binary64, ofBits}

@@ -1,6 +1,6 @@
 -- Laws behind the proofs of the functions.
+pub mod BuiltIn
 pub mod Table
-pub mod Generated
 pub mod Least
 pub mod AxisSines
 pub mod Shared

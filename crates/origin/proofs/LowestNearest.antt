@@ -1,4 +1,5 @@
--- "Nearest is the lowest-numbered origin with the least computed haversine", for every table and every point; and only one place of a list is so. Assumes nothing.
+-- "Nearest is the lowest-numbered origin with the least computed haversine", for every table and every point; and only one place of a
+-- list is so. Assumes nothing.
 use mathlib.Core.Path.{_≡_, refl, subst}
 use mathlib.Core.Bool.{Bool, true, false}
 use mathlib.Core.List.{List, [], _∷_}
@@ -32,7 +33,8 @@ data Found (hs : List Float) (d : Float) (i b : ℕ) : ℕ → Type 0 where
 -- ---- one number in front
 
 -- the least of the rest, x, is the least still
-later : (h : Float) (hs : List Float) (j : ℕ) (d : Float) → let x = getD hs j nan in T (lt x d) → (T (lt h x) → ⊥) → (T (eq h x) → ⊥) → IsLeast hs j → IsLeast (h ∷ hs) (suc j)
+later : (h : Float) (hs : List Float) (j : ℕ) (d : Float) → let x = getD hs j nan in
+    T (lt x d) → (T (lt h x) → ⊥) → (T (eq h x) → ⊥) → IsLeast hs j → IsLeast (h ∷ hs) (suc j)
 later h hs j d t n m l =
     let x = getD hs j nan in
     record {

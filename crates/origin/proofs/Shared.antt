@@ -1,4 +1,5 @@
--- A haversine put together from the parts that the code shares: the squared half sines of both differences, the sine of the point's phi, and that of the axis's. Assumes nothing.
+-- A haversine put together from the parts that the code shares: the squared half sines of both differences, the sine of the point's phi,
+-- and that of the axis's. Assumes nothing.
 use mathlib.Core.Path.{_≡_, sym}
 use Prim.Native.Nat.{ℕ}
 use lib.Ieee.{Float, binary64, add, sub, mul, div}

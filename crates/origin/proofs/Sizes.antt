@@ -16,6 +16,7 @@ use Rattle.coordinates.specs.Constants.{8·0}
 use Rattle.coordinates.proofs.Sizes.{inside-8}
 use Rattle.origin.specs.Origins.{ORIGINS, originAt}
 use Rattle.origin.specs.declared.utils.Origin.{Origin}
+use Rattle.origin.proofs.BuiltIn.{BITS, built-in}
 
 -- every number of a list is within ±8
 unfoldable allSmall : List Float → Bool
@@ -40,9 +41,12 @@ pub record Small (o : Origin) : Type 0 where
   pub phi : Bounded (o .axis .phi .0) 8·0
   pub turn : Bounded (o .angle .0) 8·0
 
+bits-test : T (allSmall BITS)
+unfolding allSmall BITS ofBits
+bits-test = tt
+
 origins-test : T (allSmall ORIGINS)
-unfolding allSmall ORIGINS ofBits
-origins-test = tt
+origins-test = rw built-in bits-test
 
 pub origins-small : (k : ℕ) → Small (originAt ORIGINS k)
 unfolding originAt ofBits

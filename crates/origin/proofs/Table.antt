@@ -5,6 +5,7 @@ use native.Mathlib.Omega.{arith}
 use lib.ListN.{length, getD, List·getD-eq-default}
 use lib.Ieee.{Float, nan, binary64, ofBits, div}
 use Rattle.origin.specs.Origins.{ORIGINS, originOf, originAt}
+use Rattle.origin.proofs.BuiltIn.{BITS, built-in}
 
 -- NaN as the code makes it
 abbrev made : Float
@@ -15,8 +16,8 @@ unfolding div ofBits
 made-nan = refl
 
 rows : length ORIGINS ≡ 84
-unfolding ORIGINS
-rows = refl
+unfolding BITS
+rows = ap length built-in
 
 past : (n : ℕ) → 84 ≤ n → made ≡ getD ORIGINS n nan
 past n h = made-nan ∙ sym (List·getD-eq-default ORIGINS nan {n = n} (let e = rows in omega arith))

@@ -1,4 +1,5 @@
--- What document 01 says of the nearest origin, "the lowest-numbered origin with the least computed haversine", apart from how it is searched for. Definitions only.
+-- What document 01 says of the nearest origin, "the lowest-numbered origin with the least computed haversine", apart from how it is
+-- searched for. Definitions only.
 use Prim.Native.Nat.{ℕ, _<_}
 use mathlib.Core.Path.{_≡_}
 use mathlib.Core.Bool.{false}

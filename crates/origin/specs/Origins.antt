@@ -1,10 +1,11 @@
--- core/origin.rs: generate_origins, and the table of its twelve origins as 84 numbers in final order. Definitions only.
+-- core/origin.rs: generate_origins, and the table of its twelve origins as 84 numbers in final order. Every other definition takes a table,
+-- and contracts cite it at the built-in one, ORIGINS. Definitions only.
 use Prim.Native.Nat.{ℕ, _+_, _*_, _%_}
 use mathlib.Core.Bool.{false}
 use mathlib.Core.List.{List, [], _∷_, _++_, map}
 use lib.ListN.{getD}
-use lib.Ieee.{Float, nan, binary64, ofBits}
-use Rattle.arithmetic.specs.Arith.{Arith}
+use lib.Ieee.{Float, nan}
+use Rattle.arithmetic.specs.Arith.{Arith, ieee}
 use Rattle.arithmetic.specs.Numbers.{0·0}
 use Rattle.elementary.specs.Constants.{PI}
 use Rattle.coordinates.specs.CoordinateTransforms.{radians}
@@ -29,7 +30,8 @@ rowOf o = o .axis .theta .0 ∷ o .axis .phi .0 ∷ o .quat .x ∷ o .quat .y �
 unfoldable pub originAt : List Float → ℕ → Origin
 originAt table k =
     let at = 7 * k in
-    originOf (getD table at nan) (getD table (at + 1) nan) (getD table (at + 2) nan) (getD table (at + 3) nan) (getD table (at + 4) nan) (getD table (at + 5) nan) (getD table (at + 6) nan)
+    let number : ℕ → Float = λ n. getD table n nan in
+    originOf (number at) (number (at + 1)) (number (at + 2)) (number (at + 3)) (number (at + 4)) (number (at + 5)) (number (at + 6))
 
 -- ---- how the Rust makes them
 
@@ -75,6 +77,7 @@ module _ (A : Arith) where
   unfolding made nowhere
   generateOrigins = map (λ k. getD made k nowhere) ORIGIN-ORDER
 
+  -- row after row
   rows : List Origin → List Float
   rows [] = []
   rows (o ∷ os) = rowOf o ++ rows os
@@ -83,22 +86,8 @@ module _ (A : Arith) where
   unfolding generateOrigins rows rowOf
   generatedTable = rows generateOrigins
 
--- ---- the built-in table, by its bits, a row a line. That it is `generatedTable ieee` is computed (`proofs/Generated`).
+-- ---- the built-in table. Its 84 numbers by their bits stand in `proofs/BuiltIn`, proved equal.
 
 unfoldable pub ORIGINS : List Float
-unfolding ofBits
-ORIGINS =
-    map (ofBits binary64)
-    (0x0000_0000_0000_0000 ∷ 0x0000_0000_0000_0000 ∷ 0x0000_0000_0000_0000 ∷ 0x0000_0000_0000_0000 ∷ 0x0000_0000_0000_0000 ∷ 0x3ff0_0000_0000_0000 ∷ 0x0000_0000_0000_0000 ∷
-    0x0000_0000_0000_0000 ∷ 0x3ff1_b6e1_92eb_be44 ∷ 0x0000_0000_0000_0000 ∷ 0x3fe0_d2ca_0da1_530d ∷ 0x0000_0000_0000_0000 ∷ 0x3feb_3888_0b46_03e4 ∷ 0x3fe4_1b2f_769c_f0e0 ∷
-    0x3fe4_1b2f_769c_f0e0 ∷ 0x4000_468a_8ace_4df6 ∷ 0xbfe0_0000_0000_0000 ∷ 0x3fe6_05a9_0c73_ab79 ∷ 0x0000_0000_0000_0000 ∷ 0x3fe0_d2ca_0da1_530d ∷ 0x3fe4_1b2f_769c_f0e0 ∷
-    0x3ffe_28c7_31eb_6950 ∷ 0x4000_468a_8ace_4df6 ∷ 0xbfe9_e377_9b97_f4a8 ∷ 0xbfd0_d2ca_0da1_530d ∷ 0x0000_0000_0000_0000 ∷ 0x3fe0_d2ca_0da1_530d ∷ 0x3fe4_1b2f_769c_f0e0 ∷
-    0x3ff4_1b2f_769c_f0e0 ∷ 0x3ff1_b6e1_92eb_be44 ∷ 0xbfe0_0000_0000_0000 ∷ 0x3fc4_cb7b_fb49_61ae ∷ 0x0000_0000_0000_0000 ∷ 0x3feb_3888_0b46_03e4 ∷ 0x3fe4_1b2f_769c_f0e0 ∷
-    0x4004_1b2f_769c_f0e0 ∷ 0x3ff1_b6e1_92eb_be44 ∷ 0xbfd3_c6ef_372f_e950 ∷ 0xbfdb_3888_0b46_03e5 ∷ 0x0000_0000_0000_0000 ∷ 0x3feb_3888_0b46_03e4 ∷ 0x3fe4_1b2f_769c_f0e0 ∷
-    0x400e_28c7_31eb_6950 ∷ 0x3ff1_b6e1_92eb_be44 ∷ 0x3fd3_c6ef_372f_e950 ∷ 0xbfdb_3888_0b46_03e5 ∷ 0x0000_0000_0000_0000 ∷ 0x3feb_3888_0b46_03e4 ∷ 0x3fe4_1b2f_769c_f0e0 ∷
-    0x4011_97c9_87c9_52c4 ∷ 0x4000_468a_8ace_4df6 ∷ 0x3fe9_e377_9b97_f4a8 ∷ 0xbfd0_d2ca_0da1_530d ∷ 0x0000_0000_0000_0000 ∷ 0x3fe0_d2ca_0da1_530d ∷ 0x3fe4_1b2f_769c_f0e0 ∷
-    0x4009_21fb_5444_2d18 ∷ 0x4000_468a_8ace_4df6 ∷ 0x0000_0000_0000_0000 ∷ 0xbfeb_3888_0b46_03e4 ∷ 0x0000_0000_0000_0000 ∷ 0x3fe0_d2ca_0da1_530d ∷ 0x3fe4_1b2f_769c_f0e0 ∷
-    0x0000_0000_0000_0000 ∷ 0x4009_21fb_5444_2d18 ∷ 0x0000_0000_0000_0000 ∷ 0xbff0_0000_0000_0000 ∷ 0x0000_0000_0000_0000 ∷ 0x0000_0000_0000_0000 ∷ 0x0000_0000_0000_0000 ∷
-    0x4016_9e95_6570_8efc ∷ 0x4000_468a_8ace_4df6 ∷ 0x3fe0_0000_0000_0000 ∷ 0x3fe6_05a9_0c73_ab79 ∷ 0x0000_0000_0000_0000 ∷ 0x3fe0_d2ca_0da1_530d ∷ 0x3fe4_1b2f_769c_f0e0 ∷
-    0x4014_1b2f_769c_f0e0 ∷ 0x3ff1_b6e1_92eb_be44 ∷ 0x3fe0_0000_0000_0000 ∷ 0x3fc4_cb7b_fb49_61ae ∷ 0x0000_0000_0000_0000 ∷ 0x3feb_3888_0b46_03e4 ∷ 0x3fe4_1b2f_769c_f0e0 ∷
-    [])
+unfolding generatedTable
+ORIGINS = generatedTable ieee

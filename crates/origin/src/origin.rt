@@ -239,11 +239,13 @@ pub fn find_nearest_origin(point: Spherical) -> u8
     least(&distances)
 }
 
+// What nearest comes to: an origin's id, or the refusal.
 pub enum OriginAnswer {
     Answered(u8),
     Refused(Refusal),
 }
 
+// The call: the lowest-numbered origin with the least haversine, or theta's and then phi's 5 or 6.
 pub fn nearest(point: Spherical) -> OriginAnswer
     ensures { λ r. ⌜ givenOrigin r ≡ nearestGiven ieee ORIGINS point ⌝ }
 {

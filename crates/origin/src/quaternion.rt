@@ -6,6 +6,7 @@ ghost use mathlib.Core.Path.{_≡_};
 ghost use Rattle.arithmetic.specs.Arith.{ieee};
 ghost use Rattle.origin.specs.Quaternion.{quatConjugate, transformQuat};
 
+// The rotation back, for a unit quaternion.
 pub fn quat_conjugate(q: Quat) -> Quat
     ensures { λ r. ⌜ r ≡ quatConjugate q ⌝ }
 {
@@ -24,16 +25,27 @@ pub fn transform_quat(v: Cartesian, q: Quat) -> Cartesian
     let vx = v.0.x;
     let vy = v.0.y;
     let vz = v.0.z;
+    let qx = q.x;
+    let qy = q.y;
+    let qz = q.z;
+    let qw = q.w;
+    // q^-1, since q is a unit quaternion
     let conj = quat_conjugate(q);
+    let qconj_x = conj.x;
+    let qconj_y = conj.y;
+    let qconj_z = conj.z;
+    let qconj_w = conj.w;
 
-    let t1_x = q.w * vx + q.y * vz - q.z * vy;
-    let t1_y = q.w * vy + q.z * vx - q.x * vz;
-    let t1_z = q.w * vz + q.x * vy - q.y * vx;
-    let t1_w = -q.x * vx - q.y * vy - q.z * vz;
+    // q v
+    let t1_x = qw * vx + qy * vz - qz * vy;
+    let t1_y = qw * vy + qz * vx - qx * vz;
+    let t1_z = qw * vz + qx * vy - qy * vx;
+    let t1_w = -qx * vx - qy * vy - qz * vz;
 
+    // (q v) q^-1
     Cartesian(Vec3 {
-        x: t1_w * conj.x + t1_x * conj.w + t1_y * conj.z - t1_z * conj.y,
-        y: t1_w * conj.y + t1_y * conj.w + t1_z * conj.x - t1_x * conj.z,
-        z: t1_w * conj.z + t1_z * conj.w + t1_x * conj.y - t1_y * conj.x,
+        x: t1_w * qconj_x + t1_x * qconj_w + t1_y * qconj_z - t1_z * qconj_y,
+        y: t1_w * qconj_y + t1_y * qconj_w + t1_z * qconj_x - t1_x * qconj_z,
+        z: t1_w * qconj_z + t1_z * qconj_w + t1_x * qconj_y - t1_y * qconj_x,
     })
 }

@@ -1,6 +1,8 @@
+// What an origin is made of.
 use coordinates::base::Radians;
 use coordinates::spherical::Spherical;
 
+// A rotation: a unit quaternion, w its real part.
 pub struct Quat {
     pub x: f64,
     pub y: f64,

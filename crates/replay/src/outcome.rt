@@ -13,6 +13,7 @@ pub struct Outcome {
     pub third: u64,
 }
 
+// One answer.
 pub fn one(x: f64) -> Outcome
     ensures { λ r. ⌜ r ≡ outcomeOf 0 1 (toBits binary64 x) 0 0 ⌝ }
 {
@@ -25,6 +26,20 @@ pub fn one(x: f64) -> Outcome
     }
 }
 
+// One answer that is a whole number: it stands as it is, not as a float.
+pub fn whole(n: u64) -> Outcome
+    ensures { λ r. ⌜ r ≡ outcomeOf 0 1 n 0 0 ⌝ }
+{
+    Outcome {
+        status: 0,
+        count: 1,
+        first: n,
+        second: 0,
+        third: 0,
+    }
+}
+
+// Two answers.
 pub fn two(x: f64, y: f64) -> Outcome
     ensures { λ r. ⌜ r ≡ outcomeOf 0 2 (toBits binary64 x) (toBits binary64 y) 0 ⌝ }
 {
@@ -37,6 +52,7 @@ pub fn two(x: f64, y: f64) -> Outcome
     }
 }
 
+// Three answers.
 pub fn three(x: f64, y: f64, z: f64) -> Outcome
     ensures { λ r. ⌜ r ≡ outcomeOf 0 3 (toBits binary64 x) (toBits binary64 y) (toBits binary64 z) ⌝ }
 {
@@ -49,6 +65,7 @@ pub fn three(x: f64, y: f64, z: f64) -> Outcome
     }
 }
 
+// A refusal, which has no answers.
 pub fn refused(number: u8) -> Outcome
     ensures { λ r. ⌜ r ≡ outcomeOf number 0 0 0 0 ⌝ }
 {

@@ -23,24 +23,27 @@ pub enum Next {
     Done,
 }
 
+// A byte as a number of 64 bits.
 fn wide(x: u8) -> u64
-    ensures { λ r. ⌜ r ≡ x ⌝ }
-    ensures { λ r. ⌜ r < 256 ⌝ }
+    ensures same { λ r. ⌜ r ≡ x ⌝ }
+    ensures small { λ r. ⌜ r < 256 ⌝ }
 {
     x as u64
 }
 
+// Four bytes as a number, the highest first.
 fn of_four(a: u8, b: u8, c: u8, d: u8) -> u64
-    ensures { λ r. ⌜ r ≡ fourOf a b c d ⌝ }
-    ensures { λ r. ⌜ r < 4294967296 ⌝ }
+    ensures number { λ r. ⌜ r ≡ fourOf a b c d ⌝ }
+    ensures small { λ r. ⌜ r < 4294967296 ⌝ }
 {
     wide(a) * 16777216 + wide(b) * 65536 + wide(c) * 256 + wide(d)
 }
 
+// The four bytes from a place on, as a number.
 fn four(words: &[u8; 96], at: usize) -> u64
     requires { ⌜ at ≤ 92 ⌝ }
-    ensures { λ r. ⌜ r ≡ fourAt (now (words .entry)) at ⌝ }
-    ensures { λ r. ⌜ r < 4294967296 ⌝ }
+    ensures number { λ r. ⌜ r ≡ fourAt (now (words .entry)) at ⌝ }
+    ensures small { λ r. ⌜ r < 4294967296 ⌝ }
 {
     of_four(words[at], words[at + 1], words[at + 2], words[at + 3])
 }

@@ -18,15 +18,18 @@ fn name(names: &[u8], number: u8) {
     }
 }
 
+// A space and 64 bits in hexadecimal.
 fn field(bits: u64) {
     io::write_all(STDOUT_FILENO, b" ");
     io::print_hex(STDOUT_FILENO, bits, 16);
 }
 
+// A byte in decimal.
 fn decimal(number: u8) {
     io::print_decimal(STDOUT_FILENO, number as u64);
 }
 
+// A record's arguments, as their bits.
 fn arguments(words: &[u8; 96], count: usize) {
     let mut place: usize = 0;
     while place < count {
@@ -64,6 +67,7 @@ pub fn difference(names: &[u8], head: Head, words: &[u8; 96], stored: Outcome, g
     io::write_all(STDOUT_FILENO, b"\n");
 }
 
+// A record that no function has: its number, and how many arguments and answers it has.
 pub fn unknown(number: u8, arguments: u8, answers: u8) {
     io::write_all(STDOUT_FILENO, b"malformed list: function ");
     decimal(number);
@@ -74,14 +78,17 @@ pub fn unknown(number: u8, arguments: u8, answers: u8) {
     io::write_all(STDOUT_FILENO, b" answers\n");
 }
 
+// A list that ends inside a record.
 pub fn cut_off() {
     io::write_all(STDOUT_FILENO, b"malformed list: cut off inside a record\n");
 }
 
+// A list that is longer than the program reads.
 pub fn too_long() {
     io::write_all(STDOUT_FILENO, b"malformed list: too long\n");
 }
 
+// The line of one function.
 fn summary(names: &[u8], number: u8, compared: u64, differ: u64) {
     name(names, number);
     io::write_all(STDOUT_FILENO, b" ");

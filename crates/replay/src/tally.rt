@@ -27,8 +27,9 @@ pub fn compare(
     compared: &mut [u64; 32],
     differ: &mut [u64; 32],
 )
-    ensures { λ _. ⌜ now (compared .exit) ≡ within (head .number) (now (compared .entry)) (counted (now (compared .entry)) (head .number)) ⌝ }
-    ensures { λ _. ⌜ now (differ .exit) ≡ within (head .number) (now (differ .entry)) (countedUnless (same given (storedIn head (now (words .entry)))) (now (differ .entry)) (head .number)) ⌝ }
+    ensures compared { λ _. ⌜ now (compared .exit) ≡ within (head .number) (now (compared .entry)) (counted (now (compared .entry)) (head .number)) ⌝ }
+    ensures differ { λ _. ⌜ now (differ .exit) ≡ within (head .number) (now (differ .entry))
+        (countedUnless (same given (storedIn head (now (words .entry)))) (now (differ .entry)) (head .number)) ⌝ }
 {
     let number = head.number as usize;
     if number > 31 {

@@ -13,14 +13,17 @@ use coordinates::vec3::Vec3;
 use replay::record::argument;
 ghost use Prim.Native.Nat.{_<_};
 
+// The first argument, in degrees.
 pub fn degrees(words: &[u8; 96]) -> Degrees {
     Degrees(argument(words, 0))
 }
 
+// The first argument, in radians.
 pub fn radians(words: &[u8; 96]) -> Radians {
     Radians(argument(words, 0))
 }
 
+// Longitude and latitude, the first two.
 pub fn lon_lat(words: &[u8; 96]) -> LonLat {
     LonLat {
         longitude: Degrees(argument(words, 0)),
@@ -28,6 +31,7 @@ pub fn lon_lat(words: &[u8; 96]) -> LonLat {
     }
 }
 
+// Rho and gamma, the first two.
 pub fn polar(words: &[u8; 96]) -> Polar {
     Polar {
         rho: argument(words, 0),
@@ -35,6 +39,7 @@ pub fn polar(words: &[u8; 96]) -> Polar {
     }
 }
 
+// Theta and phi, from a place on.
 pub fn spherical(words: &[u8; 96], place: u8) -> Spherical {
     Spherical {
         theta: Radians(argument(words, place as usize)),
@@ -42,6 +47,7 @@ pub fn spherical(words: &[u8; 96], place: u8) -> Spherical {
     }
 }
 
+// u, v and w, the first three.
 pub fn barycentric(words: &[u8; 96]) -> Barycentric {
     Barycentric {
         u: argument(words, 0),
@@ -50,6 +56,7 @@ pub fn barycentric(words: &[u8; 96]) -> Barycentric {
     }
 }
 
+// x and y, from a place on.
 fn face_at(words: &[u8; 96], place: usize) -> Face
     requires { ⌜ place < 260 ⌝ }
 {
@@ -59,10 +66,12 @@ fn face_at(words: &[u8; 96], place: usize) -> Face
     })
 }
 
+// A face point: x and y, from a place on.
 pub fn face(words: &[u8; 96], place: u8) -> Face {
     face_at(words, place as usize)
 }
 
+// A face triangle: x and y of a, b and c, from a place on.
 pub fn triangle(words: &[u8; 96], place: u8) -> FaceTriangle {
     FaceTriangle {
         a: face_at(words, place as usize),
@@ -71,6 +80,7 @@ pub fn triangle(words: &[u8; 96], place: u8) -> FaceTriangle {
     }
 }
 
+// x, y and z, from a place on.
 pub fn cartesian(words: &[u8; 96], place: u8) -> Cartesian {
     Cartesian(Vec3 {
         x: argument(words, place as usize),

@@ -1,14 +1,14 @@
 // The calls on the buffers that are lent, each at a record's arguments.
 use answer::bits;
+use coordinates::conversions::FaceAnswer;
 use coordinates::conversions::LonLatAnswer;
 use coordinates::conversions::SphericalAnswer;
 use dodecahedron::calls;
-use dodecahedron::used::PlaceAnswer;
+use dodecahedron::place::PlaceAnswer;
 use replay::outcome::Outcome;
 use replay::outcome::refused;
 use replay::outcome::two;
 use replay::record::word;
-use set::checks::FaceAnswer;
 use set::open::OpenAnswer;
 use set::open::open;
 

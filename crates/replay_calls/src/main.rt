@@ -88,9 +88,9 @@ fn outcome(
 
 // How many numbers of the set are not as noted, in the first buffer where one is: none only where all are.
 fn wrong(frame: &[f64], face: &[f64], sphere: &[f64], notes: &[f64]) -> usize
-    ensures { λ r. ⌜ (r ≡ 0 → AlikeFrom (now (frame .entry)) (now (notes .entry)) 0) ⌝ }
-    ensures { λ r. ⌜ (r ≡ 0 → AlikeFrom (now (face .entry)) (now (notes .entry)) 187) ⌝ }
-    ensures { λ r. ⌜ (r ≡ 0 → AlikeFrom (now (sphere .entry)) (now (notes .entry)) 398) ⌝ }
+    ensures frame { λ r. ⌜ (r ≡ 0 → AlikeFrom (now (frame .entry)) (now (notes .entry)) 0) ⌝ }
+    ensures face { λ r. ⌜ (r ≡ 0 → AlikeFrom (now (face .entry)) (now (notes .entry)) 187) ⌝ }
+    ensures sphere { λ r. ⌜ (r ≡ 0 → AlikeFrom (now (sphere .entry)) (now (notes .entry)) 398) ⌝ }
 {
     let in_frame = unlike(frame, notes, 0);
     if in_frame > 0 {

@@ -6,19 +6,10 @@ use replay::outcome::Outcome;
 use replay::outcome::one;
 use replay::outcome::refused;
 use replay::outcome::three;
+use replay::outcome::whole;
 use replay::record::argument;
 
-// One answer that is a whole number: it stands as it is, not as a float.
-pub fn whole(n: u64) -> Outcome {
-    Outcome {
-        status: 0,
-        count: 1,
-        first: n,
-        second: 0,
-        third: 0,
-    }
-}
-
+// The nearest origin's id, or the refusal.
 pub fn nearest(words: &[u8; 96]) -> Outcome {
     match origin::origin::nearest(replay_arguments::spherical(words, 0)) {
         OriginAnswer::Answered(id) => whole(id as u64),
@@ -26,6 +17,7 @@ pub fn nearest(words: &[u8; 96]) -> Outcome {
     }
 }
 
+// From a point to an axis; 19 where an angle is outside, which the function's callers rule out.
 pub fn haversine(words: &[u8; 96]) -> Outcome {
     let point = replay_arguments::spherical(words, 0);
     let axis = replay_arguments::spherical(words, 2);
@@ -44,6 +36,7 @@ pub fn haversine(words: &[u8; 96]) -> Outcome {
     one(origin::origin::haversine(point, axis))
 }
 
+// The quaternion behind a vector.
 fn quat(words: &[u8; 96]) -> Quat {
     Quat {
         x: argument(words, 3),
@@ -53,17 +46,20 @@ fn quat(words: &[u8; 96]) -> Quat {
     }
 }
 
+// A vector turned by a quaternion.
 pub fn transform_quat(words: &[u8; 96]) -> Outcome {
     let v = replay_arguments::cartesian(words, 0);
     let r = origin::quaternion::transform_quat(v, quat(words));
     three(r.0.x, r.0.y, r.0.z)
 }
 
+// The index of the triangle of a point.
 pub fn get_face_triangle_index(words: &[u8; 96]) -> Outcome {
     let index = tiling::index::get_face_triangle_index(replay_arguments::polar(words));
     whole(index as u64)
 }
 
+// A gamma as the angle from its quintant's bisector.
 pub fn normalize_gamma(words: &[u8; 96]) -> Outcome {
     let beta = tiling::index::normalize_gamma(replay_arguments::radians(words));
     one(beta.0)

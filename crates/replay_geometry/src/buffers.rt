@@ -30,6 +30,7 @@ struct Effect {
     sphere: usize,
 }
 
+// What differs from foreign buffers.
 fn effect_on(status: u8, frame: &[f64; 187], face: &[f64; 211], sphere: &[f64; 2401]) -> Effect {
     let before = [FOREIGN; 2401];
     Effect {
@@ -76,6 +77,7 @@ pub fn answer(words: &[u8; 96]) -> Outcome {
     refused(o.status)
 }
 
+// How many numbers of each buffer open changed.
 pub fn changes(words: &[u8; 96]) -> Outcome {
     let o = opened(words);
     if o.status == NO_SUCH_PLACE {

@@ -24,6 +24,7 @@ fn of_origin(origin: Origin, place: u64) -> Outcome {
     }
 }
 
+// One number of an origin.
 pub fn get_origin(words: &[u8; 96]) -> Outcome {
     let id = word(words, 0);
     if id > 11 {
@@ -32,6 +33,7 @@ pub fn get_origin(words: &[u8; 96]) -> Outcome {
     of_origin(origin::origin::get_origin(id as u8), word(words, 1))
 }
 
+// x and y.
 fn of_face(f: Face) -> Outcome {
     two(f.0.x, f.0.y)
 }

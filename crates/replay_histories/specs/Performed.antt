@@ -1,13 +1,8 @@
 -- A call of the program as a call of crate `histories`. Definitions only.
-use mathlib.Core.List.{List}
-use lib.Ieee.{Float}
-use Rattle.histories.specs.Lists.{Buffers, opens, forwards, inverses, places, unplaces, shows, asks}
+use Rattle.histories.specs.Lists.{opens, forwards, inverses, places, unplaces, shows, asks}
 use Rattle.histories.specs.Lists as lists
 use Rattle.replay_histories.specs.declared.call.Call.{Call}
 use Rattle.replay_histories.specs.declared.call.Call.the-variants as call
-
-abbrev pub buffers : List Float → List Float → List Float → Buffers
-buffers frame face sphere = record { frame = frame; face = face; sphere = sphere }
 
 abbrev pub callOf : Call → lists.Call
 callOf call.Open = opens

@@ -1,5 +1,6 @@
 // A call that is lent the set, with its other arguments, and what it comes to on a set.
 use answer::bits;
+use coordinates::conversions::FaceAnswer;
 use coordinates::conversions::LonLatAnswer;
 use coordinates::conversions::SphericalAnswer;
 use coordinates::coords::Face;
@@ -9,20 +10,19 @@ use dodecahedron::calls::forward;
 use dodecahedron::calls::inverse;
 use dodecahedron::calls::place;
 use dodecahedron::calls::unplace;
-use dodecahedron::used::PlaceAnswer;
+use dodecahedron::place::PlaceAnswer;
 use replay::outcome::Outcome;
 use replay::outcome::refused;
 use replay::outcome::two;
-use set::checks::FaceAnswer;
 use set::open::OpenAnswer;
 use set::open::open;
 use show::SlotState;
 use show::StoreKind;
 use show::show;
 use show::slot_state;
-ghost use mathlib.Core.Path.{_≡_};
+ghost use Rattle.set.specs.Outcome.{lent, Becomes};
 ghost use Rattle.histories.specs.Lists.{step};
-ghost use Rattle.replay_histories.specs.Performed.{buffers, callOf};
+ghost use Rattle.replay_histories.specs.Performed.{callOf};
 
 pub enum Call {
     Open,
@@ -105,9 +105,7 @@ pub fn perform(
     sphere_store: &mut [f64],
     call: Call,
 ) -> Outcome
-    ensures { λ _. ⌜ now (frame .exit) ≡ step (buffers (now (frame .entry)) (now («face_store» .entry)) (now («sphere_store» .entry))) (callOf call) .frame ⌝ }
-    ensures { λ _. ⌜ now («face_store» .exit) ≡ step (buffers (now (frame .entry)) (now («face_store» .entry)) (now («sphere_store» .entry))) (callOf call) .face ⌝ }
-    ensures { λ _. ⌜ now («sphere_store» .exit) ≡ step (buffers (now (frame .entry)) (now («face_store» .entry)) (now («sphere_store» .entry))) (callOf call) .sphere ⌝ }
+    ensures { λ _. ⌜ Becomes (lent frame «face_store» «sphere_store») (λ s. step s (callOf call)) ⌝ }
 {
     match call {
         Call::Open => of_open(open(frame, face_store, sphere_store)),

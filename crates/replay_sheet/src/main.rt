@@ -3,7 +3,6 @@
 // how many differ, names each that differs, and says so where the list is malformed.
 use libc::STDIN_FILENO;
 use libc::STDOUT_FILENO;
-use sheet::SheetAnswer;
 ghost use mathlib.Core.Path.{_≡_};
 ghost use Prim.Native.Nat.{_<_};
 
@@ -15,21 +14,25 @@ enum Next {
     Done,
 }
 
+// Writes a text.
 fn say(text: &[u8]) {
     io::write_all(STDOUT_FILENO, text);
 }
 
+// Writes a number in decimal.
 fn decimal(n: u64) {
     io::print_decimal(STDOUT_FILENO, n);
 }
 
+// A byte as a number of 32 bits.
 fn wide(x: u8) -> u32
-    ensures { λ r. ⌜ r ≡ x ⌝ }
-    ensures { λ r. ⌜ r < 256 ⌝ }
+    ensures same { λ r. ⌜ r ≡ x ⌝ }
+    ensures small { λ r. ⌜ r < 256 ⌝ }
 {
     x as u32
 }
 
+// Four bytes as a number, the highest first.
 fn of_four(a: u8, b: u8, c: u8, d: u8) -> u32 {
     wide(a) * 16777216 + wide(b) * 65536 + wide(c) * 256 + wide(d)
 }
@@ -46,13 +49,7 @@ fn counts_of(head: &[u8; 51]) -> [u32; 12] {
     counts
 }
 
-fn status(given: SheetAnswer) -> u8 {
-    match given {
-        SheetAnswer::Printed => 0,
-        SheetAnswer::Refused(n) => answer::number(n),
-    }
-}
-
+// Whether all bytes of the room are the wanted ones.
 fn is_same(room: &[u8; 4864], wanted: &[u8; 4864]) -> bool {
     let mut i: usize = 0;
     while i < 4864 {
@@ -72,9 +69,10 @@ fn print(head: &[u8; 51], room: &mut [u8]) -> u8 {
     }
     let counts = counts_of(head);
     let given = sheet::print(counts, &mut room[..lent]);
-    status(given)
+    answer::status(given)
 }
 
+// Prints the next record, if there is one, and compares.
 fn replay_next() -> Next {
     let mut head = [0u8; 51];
     let mut wanted = [0u8; 4864];

@@ -4,12 +4,12 @@
 use libc::STDIN_FILENO;
 use libc::STDOUT_FILENO;
 use replay::report;
-use turns::TurnsAnswer;
 ghost use mathlib.Core.Path.{_≡_};
 ghost use mathlib.Core.Bool.{true};
 ghost use Prim.Native.Nat.{_+_, _*_, _≤_, _<_};
 ghost use lib.ListN.{length};
 
+// A byte as a number of 16 bits.
 fn wide(x: u8) -> u16
     ensures { λ r. ⌜ r < 256 ⌝ }
 {
@@ -44,13 +44,6 @@ fn same(a: &[u16], b: &[u16]) -> bool
     true
 }
 
-fn status(answer: TurnsAnswer) -> u8 {
-    match answer {
-        TurnsAnswer::Granted => 0,
-        TurnsAnswer::Refused(n) => answer::number(n),
-    }
-}
-
 // Hands out a turn of n wishes to m places, and says whether the status and all places are then the stored ones.
 fn agrees(
     wishes: &[u16],
@@ -63,7 +56,7 @@ fn agrees(
     if n > wishes.len() || m > grants.len() {
         return false;
     }
-    let given = status(turns::fair_turns(&wishes[..n], &mut grants[..m]));
+    let given = answer::status(turns::fair_turns(&wishes[..n], &mut grants[..m]));
     given == stored && same(grants, after)
 }
 

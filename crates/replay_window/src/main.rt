@@ -9,7 +9,6 @@ use replay::record::Next;
 use replay::record::word;
 use replay::report;
 use replay::tally;
-use window::AddAnswer;
 use window::State;
 
 // What a record comes to, and the window's state after it.
@@ -19,22 +18,17 @@ struct Replayed {
 }
 
 // Whether there was a record, and the window's state after it.
-struct Turn {
+struct Progress {
     is_there: bool,
     state: State,
 }
 
-fn status(given: AddAnswer) -> u8 {
-    match given {
-        AddAnswer::Added => 0,
-        AddAnswer::Refused(n) => answer::number(n),
-    }
-}
-
+// A number of 32 bits as one of 64.
 fn wide(x: u32) -> u64 {
     x as u64
 }
 
+// A byte as a number of 64 bits.
 fn wide_byte(x: u8) -> u64 {
     x as u64
 }
@@ -85,7 +79,7 @@ fn add(
     let given = s.answer;
     let after = s.state;
     Replayed {
-        outcome: refused(status(given)),
+        outcome: refused(answer::status(given)),
         state: after,
     }
 }
@@ -135,11 +129,11 @@ fn replay_next(
     state: State,
     compared: &mut [u64; 32],
     differ: &mut [u64; 32],
-) -> Turn {
+) -> Progress {
     let mut words = [0u8; 96];
     let next = record::read(b"01211", &mut words);
     let Next::Record(head) = next else {
-        return Turn {
+        return Progress {
             is_there: false,
             state,
         };
@@ -155,7 +149,7 @@ fn replay_next(
         compared,
         differ,
     );
-    Turn {
+    Progress {
         is_there: true,
         state: after,
     }
@@ -168,7 +162,7 @@ fn main() {
     let mut counts = [0u32; 12];
     let mut compared = [0u64; 32];
     let mut differ = [0u64; 32];
-    let mut turn = Turn {
+    let mut progress = Progress {
         is_there: true,
         state: State {
             first: 0,
@@ -177,9 +171,9 @@ fn main() {
         },
     };
     let mut left: u32 = 0xffff_ffff;
-    while left > 0 && turn.is_there {
-        let state = turn.state;
-        turn = replay_next(
+    while left > 0 && progress.is_there {
+        let state = progress.state;
+        progress = replay_next(
             &mut minutes,
             &mut origins,
             &mut counts,

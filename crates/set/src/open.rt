@@ -7,8 +7,8 @@ ghost use lib.ListN.{length, replicate};
 ghost use Rattle.arithmetic.specs.Numbers.{0·0};
 ghost use Rattle.arithmetic.specs.Arith.{ieee};
 ghost use Rattle.origin.specs.Origins.{ORIGINS};
-ghost use Rattle.set.specs.Sizes.{FACE-STORE, SPHERE-STORE};
-ghost use Rattle.set.specs.Open.{givenOpen, openGiven, frameAfter, clearedAfter};
+ghost use Rattle.set.specs.Outcome.{lent, Leaves};
+ghost use Rattle.set.specs.Open.{givenOpen, openOn};
 
 pub enum OpenAnswer {
     Opened,
@@ -36,14 +36,12 @@ fn clear(store: &mut [f64])
     }
 }
 
-// The frame is built apart, so that a refusal leaves what was lent as it was.
-pub fn open(frame: &mut [f64], face: &mut [f64], sphere: &mut [f64]) -> OpenAnswer
-    ensures { λ r. ⌜ givenOpen r ≡ openGiven ieee ORIGINS (now (frame .entry)) (now (face .entry)) (now (sphere .entry)) ⌝ }
-    ensures { λ _. ⌜ now (frame .exit) ≡ frameAfter ieee ORIGINS (openGiven ieee ORIGINS (now (frame .entry)) (now (face .entry)) (now (sphere .entry))) (now (frame .entry)) ⌝ }
-    ensures { λ _. ⌜ now (face .exit) ≡ clearedAfter (openGiven ieee ORIGINS (now (frame .entry)) (now (face .entry)) (now (sphere .entry))) FACE-STORE (now (face .entry)) ⌝ }
-    ensures { λ _. ⌜ now (sphere .exit) ≡ clearedAfter (openGiven ieee ORIGINS (now (frame .entry)) (now (face .entry)) (now (sphere .entry))) SPHERE-STORE (now (sphere .entry)) ⌝ }
+// Opens a set: writes the frame and empties both stores, or refuses with 1, 2, 3 or 7. The frame is
+// built apart, so that a refusal leaves what was lent as it was.
+pub fn open(frame: &mut [f64], face_store: &mut [f64], sphere_store: &mut [f64]) -> OpenAnswer
+    ensures { λ r. ⌜ Leaves (lent frame «face_store» «sphere_store») (givenOpen r) (openOn ieee ORIGINS) ⌝ }
 {
-    let check = crate::set::check_set(frame, face, sphere);
+    let check = crate::set::check_set(frame, face_store, sphere_store);
     if let Check::Refused(n) = check {
         return OpenAnswer::Refused(n);
     }
@@ -53,7 +51,7 @@ pub fn open(frame: &mut [f64], face: &mut [f64], sphere: &mut [f64]) -> OpenAnsw
         return OpenAnswer::Refused(Refusal::FrameRows);
     }
     copy(frame, &rows[..FRAME]);
-    clear(face);
-    clear(sphere);
+    clear(face_store);
+    clear(sphere_store);
     OpenAnswer::Opened
 }

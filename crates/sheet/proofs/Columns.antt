@@ -1,13 +1,13 @@
 -- What stands at a place of a page: that of its line, which is a text of 80 printable bytes and a newline. Assumes nothing.
 use mathlib.Core.Path.{_≡_, refl, sym, ap, _∙_}
-use mathlib.Core.List.{List, [], _∷_, _++_, append-assoc}
+use mathlib.Core.List.{List, [], _∷_, _++_, append-assoc, flatten}
 use Prim.Native.Nat.{ℕ, zero, suc, _+_, _*_, _-_, _≤_, _<_}
 use native.Mathlib.Omega.{arith}
 use lib.ListN.{length, getD, take, drop, length-append, length-drop, length-replicate, take-append-drop, List·getD-append}
 use lib.Seq.{take-at, drop-at, getD-at, getD-drop, drop-cons, drop-drop, drop-append-le, take-append-le}
 use Rattle.decimal.specs.Decimal.{digit, decimal}
 use Rattle.decimal.proofs.Digits.{by-digits}
-use Rattle.sheet.specs.Page.{SPACE, NEWLINE, spaces, line, rightAligned, numbered, linesOf, joined, pageOf}
+use Rattle.sheet.specs.Page.{SPACE, NEWLINE, spaces, line, rightAligned, numbered, linesOf, pageOf}
 use Rattle.sheet.specs.Claims.{columnsAt}
 use Rattle.sheet.proofs.Number.{length-aligned}
 use Rattle.sheet.proofs.Lines.{sixty, lines-long, first-long}
@@ -89,9 +89,10 @@ pub left-of : (left right : List ℕ) → take (length left) (line left right) �
 unfolding line
 left-of left right = take-at left _ (length left) refl
 
-joined-both : (a b : List (List ℕ)) → joined (a ++ b) ≡ joined a ++ joined b
-joined-both [] b = refl
-joined-both (x ∷ a) b = ap (λ (t : List ℕ). x ++ t) (joined-both a b) ∙ sym (append-assoc x (joined a) (joined b))
+flatten-both : (a b : List (List ℕ)) → flatten (a ++ b) ≡ flatten a ++ flatten b
+unfolding flatten
+flatten-both [] b = refl
+flatten-both (x ∷ a) b = ap (λ (t : List ℕ). x ++ t) (flatten-both a b) ∙ sym (append-assoc x (flatten a) (flatten b))
 
 -- ---- in a page
 module _ (counts : List ℕ) (l : ℕ) (low : l < 60) where
@@ -99,16 +100,17 @@ module _ (counts : List ℕ) (l : ℕ) (low : l < 60) where
   here = getD (linesOf counts) l []
 
   abbrev behind : List ℕ
-  behind = joined (drop (suc l) (linesOf counts))
+  behind = flatten (drop (suc l) (linesOf counts))
 
   -- a page from a line on
   from-line : drop (l * 81) (pageOf counts) ≡ here ++ behind
-  unfolding pageOf
+  unfolding pageOf flatten
   from-line =
       let ls = linesOf counts in
       let parts = sym (take-append-drop l ls) ∙ ap (λ (r : List (List ℕ)). take l ls ++ r) (drop-cons ls l [] (omega (arith, sixty counts))) in
-      ap (λ (r : List (List ℕ)). drop (l * 81) (joined r)) parts ∙ ap (drop (l * 81)) (joined-both (take l ls) (here ∷ drop (suc l) ls))
-      ∙ drop-at (joined (take l ls)) (here ++ behind) (l * 81) (first-long counts l (omega arith))
+      ap (λ (r : List (List ℕ)). drop (l * 81) (flatten r)) parts
+      ∙ ap (drop (l * 81)) (flatten-both (take l ls) (here ∷ drop (suc l) ls))
+      ∙ drop-at (flatten (take l ls)) (here ++ behind) (l * 81) (first-long counts l (omega arith))
 
   pub byte-in : (c : ℕ) → c < 81 → getD (pageOf counts) (l * 81 + c) 0 ≡ getD here c 0
   byte-in c h =

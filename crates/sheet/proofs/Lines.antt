@@ -1,7 +1,7 @@
 -- The lines of a page: what stands in each, and how long they are. Assumes nothing.
 use mathlib.Core.Path.{_≡_, refl, sym, ap, _∙_}
 use mathlib.Core.Bool.{Bool, true, false}
-use mathlib.Core.List.{List, [], _∷_, _++_, append-nil, append-assoc}
+use mathlib.Core.List.{List, [], _∷_, _++_, append-nil, append-assoc, flatten}
 use Prim.Native.Nat.{ℕ, zero, suc, _+_, _*_, _-_, _≤_, _<_}
 use native.Mathlib.Omega.{arith}
 use native.Mathlib.Nat.{add-zero, zero-add}
@@ -12,7 +12,7 @@ use lib.ListN.{length, getD, take, drop, length-append, length-drop, drop-of-len
 use lib.Seq.{length-take-le, take-at, drop-at, take-suc, take-all, getD-drop, drop-drop}
 use Rattle.decimal.specs.Decimal.{decimal}
 use Rattle.window.specs.EveryList.{sum}
-use Rattle.sheet.specs.Page.{NEWLINE, SPACE, TITLE, ALL, spaces, line, rightAligned, numbered, row, blank, linesOf, joined, pageOf}
+use Rattle.sheet.specs.Page.{NEWLINE, SPACE, TITLE, ALL, spaces, line, rightAligned, numbered, row, blank, linesOf, pageOf}
 use Rattle.sheet.proofs.Number.{length-aligned}
 
 -- ---- a text written into a blank line from column 1 on, and ten bytes in columns 71 to 80
@@ -29,7 +29,8 @@ filled left right h e =
     ∙ append-assoc (spaces k) (spaces (70 - k)) end in
     let written : left ++ drop k blank ≡ front ++ end =
     ap (λ (l : List ℕ). left ++ drop k l) parts
-    ∙ ap (λ (l : List ℕ). left ++ l) (drop-at (spaces k) (spaces (70 - k) ++ end) k (length-replicate k SPACE)) ∙ sym (append-assoc left (spaces (70 - k)) end) in
+    ∙ ap (λ (l : List ℕ). left ++ l) (drop-at (spaces k) (spaces (70 - k) ++ end) k (length-replicate k SPACE))
+    ∙ sym (append-assoc left (spaces (70 - k)) end) in
     let gap : 80 - (k + 10) ≡ 70 - k = omega arith in
     rw (written, take-at front end 70 long, drop-at front end 70 long, e, gap) (append-assoc left (spaces (70 - k)) (right ++ (NEWLINE ∷ [])))
 
@@ -114,38 +115,40 @@ module _ (counts : List ℕ) where
       (length-numbered ALL (sum (take 12 counts)) (omega arith))
 
   -- the first lines, one more and how long they are
-  pub line-more : (p : ℕ) → p < 60 → joined (take (suc p) (linesOf counts)) ≡ joined (take p (linesOf counts)) ++ getD (linesOf counts) p []
+  pub line-more : (p : ℕ) → p < 60 → flatten (take (suc p) (linesOf counts)) ≡ flatten (take p (linesOf counts)) ++ getD (linesOf counts) p []
+  unfolding flatten
   line-more p h =
-      ap joined (take-suc (linesOf counts) p [] (omega (arith, sixty counts))) ∙ join-one (take p (linesOf counts)) (getD (linesOf counts) p [])
+      ap flatten (take-suc (linesOf counts) p [] (omega (arith, sixty counts))) ∙ join-one (take p (linesOf counts)) (getD (linesOf counts) p [])
     where
-      join-one : (ls : List (List ℕ)) (l : List ℕ) → joined (ls ++ (l ∷ [])) ≡ joined ls ++ l
+      join-one : (ls : List (List ℕ)) (l : List ℕ) → flatten (ls ++ (l ∷ [])) ≡ flatten ls ++ l
       join-one [] l = append-nil l
-      join-one (x ∷ ls) l = ap (λ (t : List ℕ). x ++ t) (join-one ls l) ∙ sym (append-assoc x (joined ls) l)
+      join-one (x ∷ ls) l = ap (λ (t : List ℕ). x ++ t) (join-one ls l) ∙ sym (append-assoc x (flatten ls) l)
 
-  pub first-long : (p : ℕ) → p ≤ 60 → length (joined (take p (linesOf counts))) ≡ p * 81
+  pub first-long : (p : ℕ) → p ≤ 60 → length (flatten (take p (linesOf counts))) ≡ p * 81
+  unfolding flatten
   first-long zero h = refl
   first-long (suc p) h =
-      ap length (line-more p (omega arith)) ∙ length-append (joined (take p (linesOf counts))) (getD (linesOf counts) p [])
+      ap length (line-more p (omega arith)) ∙ length-append (flatten (take p (linesOf counts))) (getD (linesOf counts) p [])
       ∙ omega (arith, first-long p (omega arith), lines-long p (omega arith))
 
   -- all sixty are the page
-  pub all-lines : joined (take 60 (linesOf counts)) ≡ pageOf counts
+  pub all-lines : flatten (take 60 (linesOf counts)) ≡ pageOf counts
   unfolding pageOf
-  all-lines = ap joined (take-all 60 (linesOf counts) (omega (arith, sixty counts)))
+  all-lines = ap flatten (take-all 60 (linesOf counts) (omega (arith, sixty counts)))
 
   -- ---- a page of which the first p lines stand, and what follows them is as it was
   module _ (old : List ℕ) (p : ℕ) where
     abbrev pub upTo : List ℕ
-    upTo = joined (take p (linesOf counts)) ++ drop (p * 81) old
+    upTo = flatten (take p (linesOf counts)) ++ drop (p * 81) old
 
     pub up-to-long : p ≤ 60 → length old ≡ 4860 → length upTo ≡ 4860
     up-to-long h e =
-        length-append (joined (take p (linesOf counts))) (drop (p * 81) old) ∙ omega (arith, first-long p h, length-drop (p * 81) old)
+        length-append (flatten (take p (linesOf counts))) (drop (p * 81) old) ∙ omega (arith, first-long p h, length-drop (p * 81) old)
 
   pub one-line-more : (old now l : List ℕ) (p n q : ℕ) → p < 60 → n ≡ 81 → q ≡ suc p → now ≡ upTo old p → l ≡ getD (linesOf counts) p []
       → putMid (p * 81) n now l ≡ upTo old q
   one-line-more old now l p n q h s t e d =
-      let front = joined (take p (linesOf counts)) in
+      let front = flatten (take p (linesOf counts)) in
       let behind = drop (p * 81) old in
       let long = first-long p (omega arith) in
       let line = getD (linesOf counts) p [] in
@@ -155,5 +158,5 @@ module _ (counts : List ℕ) where
 
   pub all-lines-stand : (old now : List ℕ) (p : ℕ) → p ≡ 60 → length old ≡ 4860 → now ≡ upTo old p → now ≡ pageOf counts
   all-lines-stand old now p s long e =
-      e ∙ ap (upTo old) s ∙ ap (λ (l : List ℕ). joined (take 60 (linesOf counts)) ++ l) (drop-of-length-le old {i = 4860} (omega arith))
-      ∙ append-nil (joined (take 60 (linesOf counts))) ∙ all-lines
+      e ∙ ap (upTo old) s ∙ ap (λ (l : List ℕ). flatten (take 60 (linesOf counts)) ++ l) (drop-of-length-le old {i = 4860} (omega arith))
+      ∙ append-nil (flatten (take 60 (linesOf counts))) ∙ all-lines

@@ -18,7 +18,7 @@ use Rattle.window.specs.declared.Window.{Window}
 use Rattle.window.proofs.Theorem.{every-list}
 use Rattle.sheet.specs.Page.{TITLE, ALL, SPACE, NEWLINE, line, rightAligned, numbered, row, blank, linesOf, pageOf}
 use Rattle.sheet.specs.Sheet.{PAGE, sheetGiven, pageAfter, SheetOf}
-use Rattle.sheet.specs.declared.SheetAnswer.{SheetAnswer}
+use Rattle.answer.specs.declared.Check.{Check}
 use Rattle.sheet.specs.Claims.{columnsAt, LaidOut, ReadsBack, EveryPage, SamePage, SameCounts, PrintsKept, EverySheet}
 use Rattle.sheet.proofs.Number.{length-aligned, reads-aligned}
 use Rattle.sheet.proofs.Lines.{each-line, row-at, first-long, all-lines}
@@ -73,7 +73,7 @@ prints : (p : List ℕ) → length p ≡ PAGE → sheetGiven p ≡ passed
 unfolding sheetGiven
 prints p h = rw (eq-eqb (length p) PAGE h)
 
-leaves : (counts p q : List ℕ) (a : SheetAnswer) → length p ≡ PAGE → SheetOf counts p a q → q ≡ pageOf counts
+leaves : (counts p q : List ℕ) (a : Check) → length p ≡ PAGE → SheetOf counts p a q → q ≡ pageOf counts
 leaves counts p q a h s = s .page ∙ ap (λ (g : Given (Unit {0})). pageAfter g counts p) (prints p h)
 
 pub same-page : SamePage

@@ -10,7 +10,7 @@ use Rattle.window.specs.EveryList.{sum, after}
 use Rattle.window.specs.declared.Window.{Window}
 use Rattle.sheet.specs.Page.{SPACE, NEWLINE, pageOf}
 use Rattle.sheet.specs.Sheet.{PAGE, SheetOf}
-use Rattle.sheet.specs.declared.SheetAnswer.{SheetAnswer}
+use Rattle.answer.specs.declared.Check.{Check}
 
 -- n bytes of a page from byte c of line l on; lines and bytes are counted from 0, so column 71 is byte 70
 abbrev pub columnsAt : List ℕ → ℕ → ℕ → ℕ → List ℕ
@@ -35,7 +35,7 @@ EveryPage = (counts : List ℕ) → LaidOut (pageOf counts) × ReadsBack counts 
 -- "The window determines all 4,860 bytes": whatever stood on the two pages, windows with the same counts leave the same
 abbrev pub SamePage : Type 0
 SamePage =
-    (v w : Window) (p p′ q q′ : List ℕ) (a a′ : SheetAnswer) → v .counts ≡ w .counts → length p ≡ PAGE → length p′ ≡ PAGE
+    (v w : Window) (p p′ q q′ : List ℕ) (a a′ : Check) → v .counts ≡ w .counts → length p ≡ PAGE → length p′ ≡ PAGE
     → SheetOf (v .counts) p a q → SheetOf (w .counts) p′ a′ q′ → q ≡ q′
 
 -- and the page determines the twelve counts of 32 bits

@@ -1,17 +1,13 @@
 -- Paper 13: the page as text. Definitions only.
 use Prim.Native.Nat.{ℕ, _+_, _-_}
-use mathlib.Core.List.{List, [], _∷_, _++_}
+use mathlib.Core.List.{List, [], _∷_, _++_, flatten}
 use lib.ListN.{length, getD, take, drop, replicate}
+pub use Rattle.decimal.specs.Bytes.{SPACE, NEWLINE}
 use Rattle.decimal.specs.Decimal.{decimal}
 use Rattle.window.specs.EveryList.{sum}
 use Rattle.sheet.specs.Letters.{A, C, L, M, N, O, R, S, T, U}
 
--- ---- bytes
-abbrev pub SPACE : ℕ
-SPACE = 32
-
-abbrev pub NEWLINE : ℕ
-NEWLINE = 10
+-- ---- texts
 
 -- "Line 1 is "STORM COUNTS""
 abbrev pub TITLE : List ℕ
@@ -38,10 +34,11 @@ rightAligned w text = spaces (w - length text) ++ drop (length text - w) text
 abbrev pub numbered : List ℕ → ℕ → List ℕ
 numbered left n = line left (rightAligned 10 (decimal n))
 
--- the row of origin k: its number "in columns 1 to 2 and the window's count of each in columns 71 to 80"
+-- the row of origin k: "in columns 1 to 2 and the window's count of each in columns 71 to 80, both right-aligned with spaces between"
 abbrev pub row : List ℕ → ℕ → List ℕ
 row counts k = numbered (rightAligned 2 (decimal k)) (getD counts k 0)
 
+-- a line that "is spaces"
 abbrev pub blank : List ℕ
 blank = line [] []
 
@@ -50,8 +47,11 @@ blank = line [] []
 -- the lines, from first to last
 unfoldable pub linesOf : List ℕ → List (List ℕ)
 linesOf counts =
+    -- "Line 1 is "STORM COUNTS" and spaces."
     line TITLE []
+    -- "Line 2 is spaces."
     ∷ blank
+    -- "Lines 3 to 14 have origins 0 to 11 in turn"
     ∷ row counts 0
     ∷ row counts 1
     ∷ row counts 2
@@ -64,14 +64,11 @@ linesOf counts =
     ∷ row counts 9
     ∷ row counts 10
     ∷ row counts 11
+    -- "Line 15 has "ALL" in columns 1 to 3 and the sum, right-aligned too, in columns 71 to 80."
     ∷ numbered ALL (sum (take 12 counts))
+    -- "The other lines are spaces.": 45 of the 60
     ∷ replicate 45 blank
 
--- lines one after the other
-abbrev pub joined : List (List ℕ) → List ℕ
-joined [] = []
-joined (l ∷ ls) = l ++ joined ls
-
--- "The window determines all 4,860 bytes", by its twelve counts alone
+-- "The window determines all 4,860 bytes", by its twelve counts alone: the lines one after the other
 unfoldable pub pageOf : List ℕ → List ℕ
-pageOf counts = joined (linesOf counts)
+pageOf counts = flatten (linesOf counts)

@@ -6,18 +6,13 @@ use mathlib.Core.List.{List}
 use lib.Dec.{eqb}
 use lib.ListN.{length}
 use Rattle.answer.specs.Given.{Given, answered, refused, passed, refuseIf}
-use Rattle.answer.specs.Answer.{numberOf}
+use Rattle.answer.specs.Answer.{givenCheck}
+use Rattle.answer.specs.declared.Check.{Check}
 use Rattle.sheet.specs.Page.{pageOf}
-use Rattle.sheet.specs.declared.SheetAnswer.{SheetAnswer}
-use Rattle.sheet.specs.declared.SheetAnswer.the-variants as answer
 
 -- 60 lines of 80 columns and a newline
 abbrev pub PAGE : ℕ
 PAGE = 4860
-
-abbrev pub givenSheet : SheetAnswer → Given (Unit {0})
-givenSheet answer.Printed = passed
-givenSheet (answer.Refused n) = refused (numberOf n)
 
 -- "Refusal 26: the lent page isn't 4,860 bytes, tried first"
 unfoldable pub sheetGiven : List ℕ → Given (Unit {0})
@@ -29,6 +24,6 @@ pageAfter (refused n) counts page = page
 pageAfter (answered u) counts page = pageOf counts
 
 -- the sheet of these counts on the page p answers a, and leaves q
-pub record SheetOf (counts p : List ℕ) (a : SheetAnswer) (q : List ℕ) : Type 0 where
-  pub answer : givenSheet a ≡ sheetGiven p
+pub record SheetOf (counts p : List ℕ) (a : Check) (q : List ℕ) : Type 0 where
+  pub answer : givenCheck a ≡ sheetGiven p
   pub page : q ≡ pageAfter (sheetGiven p) counts p

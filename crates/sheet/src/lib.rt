@@ -1,6 +1,7 @@
 // Paper 13: the as-run sheet, a page of 60 lines of 80 columns with the twelve counts of a window. `sheet` is lent the
 // window and the page; `print` does the work, on the counts alone. Neither has a `requires`: whatever the window holds,
 // every byte of the page is defined.
+use answer::Check;
 use answer::Refusal;
 use window::Window;
 ghost use mathlib.Core.Path.{_≡_};
@@ -19,15 +20,10 @@ pub const PAGE: usize = 4860;
 
 const LINE: usize = 81;
 
-// How printing a sheet ends.
-pub enum SheetAnswer {
-    Printed,
-    Refused(Refusal),
-}
-
+// A count as a number of 64 bits.
 fn wide(x: u32) -> u64
-    ensures { λ r. ⌜ r ≡ x ⌝ }
-    ensures { λ r. ⌜ r < 4294967296 ⌝ }
+    ensures same { λ r. ⌜ r ≡ x ⌝ }
+    ensures small { λ r. ⌜ r < 4294967296 ⌝ }
 {
     x as u64
 }
@@ -163,18 +159,18 @@ fn write_page(page: &mut [u8], counts: &[u32; 12])
 }
 
 // The sheet of twelve counts, or 26 and the page as it was.
-pub fn print(counts: [u32; 12], page: &mut [u8]) -> SheetAnswer
+pub fn print(counts: [u32; 12], page: &mut [u8]) -> Check
     ensures { λ r. ⌜ SheetOf counts (now (page .entry)) r (now (page .exit)) ⌝ }
 {
     if page.len() != PAGE {
-        return SheetAnswer::Refused(Refusal::PageLength);
+        return Check::Refused(Refusal::PageLength);
     }
     write_page(page, &counts);
-    SheetAnswer::Printed
+    Check::Passed
 }
 
 // The sheet of the window that is lent, or 26 and the page as it was. Of the window only the counts are read.
-pub fn sheet(window: &Window, page: &mut [u8]) -> SheetAnswer
+pub fn sheet(window: &Window, page: &mut [u8]) -> Check
     ensures { λ r. ⌜ SheetOf (now (window .entry) .counts) (now (page .entry)) r (now (page .exit)) ⌝ }
 {
     print(window.counts, page)

@@ -16,11 +16,19 @@ use Rattle.show.specs.declared.StoreKind.{StoreKind}
 is-number : (a n : ℕ) → not (eqb a n) ≡ false → a ≡ n
 is-number a n e = eqb-true a n (not-false (eqb a n) e)
 
-module _ (face sphere : List Float) (s : StoreKind) (k : ℕ) (b : Bool) (e : slotGiven face sphere s k ≡ answered b) where
-  pub slot-fits : (length face ≡ FACE-STORE) × (length sphere ≡ SPHERE-STORE) × (k < slotsIn s)
-  unfolding slotGiven
-  slot-fits =
-      let p = refuse-answered (not (eqb (length face) FACE-STORE)) 2 _ b e in
-      let q = refuse-answered (not (eqb (length sphere) SPHERE-STORE)) 3 _ b (p .1) in
-      let r = refuse-answered (leb (slotsIn s) k) 10 _ b (q .1) in
-      (is-number (length face) FACE-STORE (p .0), is-number (length sphere) SPHERE-STORE (q .0), leb-false (slotsIn s) k (r .0))
+pub record SlotFits (faces spheres : List Float) (kind : StoreKind) (k : ℕ) : Type 0 where
+  pub faces-fit : length faces ≡ FACE-STORE
+  pub spheres-fit : length spheres ≡ SPHERE-STORE
+  pub below : k < slotsIn kind
+
+pub slot-fits : (faces spheres : List Float) (kind : StoreKind) (k : ℕ) (b : Bool) → slotGiven faces spheres kind k ≡ answered b → SlotFits faces spheres kind k
+unfolding slotGiven
+slot-fits faces spheres kind k b e =
+    let p = refuse-answered (not (eqb (length faces) FACE-STORE)) 2 _ b e in
+    let q = refuse-answered (not (eqb (length spheres) SPHERE-STORE)) 3 _ b (p .1) in
+    let r = refuse-answered (leb (slotsIn kind) k) 10 _ b (q .1) in
+    record {
+      faces-fit = is-number (length faces) FACE-STORE (p .0);
+      spheres-fit = is-number (length spheres) SPHERE-STORE (q .0);
+      below = leb-false (slotsIn kind) k (r .0);
+    }

@@ -1,11 +1,14 @@
--- Document 01, "Calls and their numbers": "Show takes the two stores, a store kind and a slot number. It hands back the coordinates as a part of whichever store was named, or an empty
--- part at the face store's start if the slot is empty or the call refused; a companion call on the same arguments answers filled, empty or the refusal." Definitions only.
+-- Document 01, "Calls and their numbers": "Show takes the two stores, a store kind and a slot number. It hands back the
+-- coordinates as a part of whichever store was named, or an empty part at the face store's start if the slot is empty or the
+-- call refused; a companion call on the same arguments answers filled, empty or the refusal." Definitions only.
 use Prim.Native.Nat.{ℕ, _+_, _-_, _*_}
+use mathlib.Core.Path.{_≡_}
 use mathlib.Core.Bool.{Bool, true, false, not}
 use mathlib.Core.List.{List, []}
 use lib.Dec.{eqb, leb}
 use lib.ListN.{length}
 use lib.Ieee.{Float}
+use denote.Ref.{RefT, now, ptr}
 use Rattle.answer.specs.Given.{Given, answered, refused, refuseIf}
 use Rattle.answer.specs.Answer.{numberOf}
 use Rattle.set.specs.Sizes.{FACE-SLOTS, FACE-WIDTH, FACE-STORE, SPHERE-SLOTS, SPHERE-WIDTH, SPHERE-STORE}
@@ -24,22 +27,22 @@ givenState (state.Refused n) = refused (numberOf n)
 -- ---- the store named
 
 abbrev pub named : {X : Type 0} → StoreKind → X → X → X
-named kind.Face face sphere = face
-named kind.Sphere face sphere = sphere
+named kind.Face faces spheres = faces
+named kind.Sphere faces spheres = spheres
 
 abbrev pub slotsIn : StoreKind → ℕ
-slotsIn s = named s FACE-SLOTS SPHERE-SLOTS
+slotsIn kind = named kind FACE-SLOTS SPHERE-SLOTS
 
 abbrev pub widthIn : StoreKind → ℕ
-widthIn s = named s FACE-WIDTH SPHERE-WIDTH
+widthIn kind = named kind FACE-WIDTH SPHERE-WIDTH
 
--- ---- the companion: 2, 3, and 10 for "slot 30 or more (face), 240 or more (sphere)"
+-- ---- the companion, on the two stores: 2, 3, and 10 for "slot 30 or more (face), 240 or more (sphere)"
 unfoldable pub slotGiven : List Float → List Float → StoreKind → ℕ → Given Bool
-slotGiven face sphere s k =
-    refuseIf (not (eqb (length face) FACE-STORE)) 2
-    (refuseIf (not (eqb (length sphere) SPHERE-STORE)) 3
-    (refuseIf (leb (slotsIn s) k) 10
-    (answered (filled (named s face sphere) (k * widthIn s)))))
+slotGiven faces spheres kind k =
+    refuseIf (not (eqb (length faces) FACE-STORE)) 2
+    (refuseIf (not (eqb (length spheres) SPHERE-STORE)) 3
+    (refuseIf (leb (slotsIn kind) k) 10
+    (answered (filled (named kind faces spheres) (k * widthIn kind)))))
 
 -- ---- show, by what the companion gives
 
@@ -50,13 +53,27 @@ whereFilled (answered false) part = []
 whereFilled (answered true) part = part
 
 unfoldable pub partShown : List Float → List Float → StoreKind → ℕ → List Float
-partShown face sphere s k = whereFilled (slotGiven face sphere s k) (run (named s face sphere) (k * widthIn s + 1) (widthIn s - 1))
+partShown faces spheres kind k =
+    whereFilled (slotGiven faces spheres kind k)
+    (run (named kind faces spheres) (k * widthIn kind + 1) (widthIn kind - 1))
 
 -- where it lies: a part from element i of a store on starts 8 bytes further for each element before it
 abbrev pub placeIn : ℕ × ℕ → ℕ → ℕ × ℕ
 placeIn store i = (store .0, i * 8 + store .1)
 
 abbrev pub placeShown : Given Bool → ℕ × ℕ → ℕ × ℕ → StoreKind → ℕ → ℕ × ℕ
-placeShown (refused n) face sphere s k = placeIn face 0
-placeShown (answered false) face sphere s k = placeIn face 0
-placeShown (answered true) face sphere s k = placeIn (named s face sphere) (k * widthIn s + 1)
+placeShown (refused n) faces spheres kind k = placeIn faces 0
+placeShown (answered false) faces spheres kind k = placeIn faces 0
+placeShown (answered true) faces spheres kind k = placeIn (named kind faces spheres) (k * widthIn kind + 1)
+
+-- ---- in a contract
+
+-- the part of a store from element i on that has n numbers: what they are, and where they lie
+pub record PartOf (store : RefT (List Float)) (i n : ℕ) (part : RefT (List Float)) : Type 0 where
+  pub numbers : now part ≡ run (now store) i n
+  pub place : ptr part ≡ placeIn (ptr store) i
+
+-- what show hands back
+pub record Shows (faces spheres : RefT (List Float)) (kind : StoreKind) (k : ℕ) (part : RefT (List Float)) : Type 0 where
+  pub numbers : now part ≡ partShown (now faces) (now spheres) kind k
+  pub place : ptr part ≡ placeShown (slotGiven (now faces) (now spheres) kind k) (ptr faces) (ptr spheres) kind k

@@ -9,16 +9,17 @@ use set::sizes::SPHERE_WIDTH;
 ghost use mathlib.Core.Path.{_≡_};
 ghost use Prim.Native.Nat.{_+_, _-_, _<_, _≤_};
 ghost use lib.ListN.{length};
-ghost use denote.Ref.{ptr};
 ghost use Rattle.answer.specs.Given.{answered};
-ghost use Rattle.stores.specs.Slots.{run, filled};
-ghost use Rattle.show.specs.Show.{givenState, slotGiven, partShown, placeShown, placeIn};
+ghost use Rattle.stores.specs.Slots.{filled};
+ghost use Rattle.show.specs.Show.{givenState, slotGiven, PartOf, Shows};
 
+// The store that a slot number is of.
 pub enum StoreKind {
     Face,
     Sphere,
 }
 
+// What the companion answers of a slot.
 pub enum SlotState {
     Filled,
     Empty,
@@ -70,7 +71,7 @@ pub fn slot_state(
 // The slot that starts at a place, without its mark.
 fn coordinates<'a>(store: &'a [f64], at: usize, width: usize) -> &'a [f64]
     requires { ⌜ (at + width ≤ length (now store)) × (0 < width) ⌝ }
-    ensures { λ r. ⌜ (now r ≡ run (now (store .entry)) (at + 1) (width - 1)) × (ptr r ≡ placeIn (ptr (store .entry)) (at + 1)) ⌝ }
+    ensures { λ r. ⌜ PartOf (store .entry) (at + 1) (width - 1) r ⌝ }
 {
     &store[at + 1..at + width]
 }
@@ -83,8 +84,7 @@ pub fn show<'a>(
     kind: StoreKind,
     slot: usize,
 ) -> &'a [f64]
-    ensures { λ r. ⌜ now r ≡ partShown (now («face_store» .entry)) (now («sphere_store» .entry)) kind slot ⌝ }
-    ensures { λ r. ⌜ ptr r ≡ placeShown (slotGiven (now («face_store» .entry)) (now («sphere_store» .entry)) kind slot) (ptr («face_store» .entry)) (ptr («sphere_store» .entry)) kind slot ⌝ }
+    ensures { λ r. ⌜ Shows («face_store» .entry) («sphere_store» .entry) kind slot r ⌝ }
 {
     match slot_state(face_store, sphere_store, kind, slot) {
         SlotState::Filled => match kind {

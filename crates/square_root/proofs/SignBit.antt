@@ -1,4 +1,5 @@
--- The sign bit: the pattern of a value is that of its size, which is below 2 ^ 63, and 2 ^ 63 more where the value is negative. A NaN is made by 0 / 0. Assumes nothing.
+-- The sign bit: the pattern of a value is that of its size, which is below 2 ^ 63, and 2 ^ 63 more where the value is negative. A NaN is made
+-- by 0 / 0. Assumes nothing.
 use mathlib.Core.Path.{_≡_, refl, ap, _∙_}
 use Prim.Native.Nat.{ℕ, zero, suc, _+_, _%_, _^_, _<_}
 use native.Mathlib.Omega.{arith}
@@ -53,7 +54,9 @@ size-below : (x : Float) → T (fits binary64 x) → T (not (isNan x)) → toBit
 unfolding abs neg isNan negative
 size-below nan h n = absurd n
 size-below (inf s) h n = omega (arith, two-parts (inf true) tt, toBits-lt binary64 (inf true) (inf-fits binary64 true))
-size-below (fin s m e) h n = omega (arith, two-parts (fin true m e) tt, toBits-lt binary64 (fin true m e) (neg-fits binary64 (fin false m e) (abs-fits (fin s m e) h)))
+size-below (fin s m e) h n =
+    let fits = neg-fits binary64 (fin false m e) (abs-fits (fin s m e) h) in
+    omega (arith, two-parts (fin true m e) tt, toBits-lt binary64 (fin true m e) fits)
 
 parts : (b : Bool) (p a : ℕ) → p ≡ cond b (2 ^ 63) 0 + a → a < 2 ^ 63 → (p % 2 ^ 63 ≡ a) × (leb (2 ^ 63) p ≡ b)
 parts true p a e h = (omega arith, le-leb (2 ^ 63) p (omega arith))

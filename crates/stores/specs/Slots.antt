@@ -1,6 +1,7 @@
--- Document 01, "Calls and their numbers": a store is slots of one width; a slot is a mark, 1.0 where it is filled, and a run of coordinates, "vertices a, b, c in turn". Definitions only.
+-- Document 01, "Calls and their numbers" and "Triangles and calls": a store is slots of one width; a slot is a mark, 1.0 where it
+-- is filled, and a run of coordinates, "vertices a, b, c in turn". Definitions only.
 use Prim.Native.Nat.{ℕ, _+_, _*_}
-use mathlib.Core.Bool.{Bool, cond}
+use mathlib.Core.Bool.{Bool, true, false, cond}
 use mathlib.Core.List.{List, [], _∷_, _++_}
 use lib.ListN.{length, getD, take, drop}
 use lib.Ieee.{Float, nan, eq}
@@ -22,9 +23,26 @@ put xs i ys = take i xs ++ (ys ++ drop (length ys) (drop i xs))
 unfoldable pub filled : List Float → ℕ → Bool
 filled xs i = eq (getD xs i nan) 1·0
 
--- slot k of the width w gets its mark and the coordinates ys where it is empty; a filled one stays as it stands
-unfoldable pub keep : ℕ → List Float → ℕ → List Float → List Float
-keep w xs k ys = cond (filled xs (k * w)) xs (put xs (k * w) (1·0 ∷ ys))
+-- a store whose slot k of the width w, if empty, is written with its mark and the coordinates ys; a filled one stays as it stands
+unfoldable pub slotWritten : ℕ → List Float → ℕ → List Float → List Float
+slotWritten w xs k ys = cond (filled xs (k * w)) xs (put xs (k * w) (1·0 ∷ ys))
+
+-- ---- the numbers of slots, by index and reflection
+
+-- the face triangle of a point: "face slot i", or "10+i" if reflected
+abbrev pub faceSlot : ℕ → Bool → ℕ
+faceSlot i false = i
+faceSlot i true = i + 10
+
+-- the one that a sphere triangle is built from: face slot i, "20+i if reflected"
+abbrev pub sourceSlot : ℕ → Bool → ℕ
+sourceSlot i false = i
+sourceSlot i true = i + 20
+
+-- "Sphere slot is 10·origin + index, plus 120 if reflected"
+abbrev pub sphereSlot : ℕ → ℕ → Bool → ℕ
+sphereSlot o i false = o * 10 + i
+sphereSlot o i true = o * 10 + i + 120
 
 -- ---- a triangle's coordinates as a run, and the triangle that a run stands for
 

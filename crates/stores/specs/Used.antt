@@ -1,57 +1,53 @@
 -- Document 01, "Triangles and calls": which slots a call uses, and how they are written (projections/dodecahedron.rs). Definitions only.
-use Prim.Native.Nat.{ℕ, _+_, _*_}
+use Prim.Native.Nat.{ℕ}
 use mathlib.Core.Bool.{Bool, true, false, cond, _&&_}
 use mathlib.Core.List.{List}
-use lib.Dec.{eqb, ltb}
-use lib.ListN.{length}
+use lib.Dec.{ltb}
 use lib.Ieee.{Float}
+use Rattle.answer.specs.Given.{Given, answered, refused}
 use Rattle.arithmetic.specs.Arith.{Arith}
 use Rattle.tiling.specs.FaceTriangles.{faceTriangle}
-use Rattle.set.specs.Sizes.{FACE-WIDTH, FACE-STORE, SPHERE-WIDTH, SPHERE-STORE}
-use Rattle.stores.specs.Slots.{keep, faceRun, sphereRun}
+use Rattle.set.specs.Sizes.{FACE-WIDTH, SPHERE-WIDTH}
+use Rattle.set.specs.Set.{Set}
+use Rattle.set.specs.Checks.{checkCall}
+use Rattle.stores.specs.Slots.{slotWritten, faceSlot, sourceSlot, sphereSlot, faceRun, sphereRun}
 use Rattle.stores.specs.declared.used.Used.{Used}
 
--- ---- slots, by index and reflection
+-- ---- what an answered call leaves: "An unreflected call uses face slot i and its sphere slot; a reflected one uses 10+i, 20+i
+-- and its sphere slot." "Empty used slots are written on success."
 
--- the face triangle of a point: "face slot i", or "10+i" if reflected
-abbrev pub faceSlot : ℕ → Bool → ℕ
-faceSlot i false = i
-faceSlot i true = i + 10
-
--- the one that a sphere triangle is built from: face slot i, "20+i if reflected"
-abbrev pub sourceSlot : ℕ → Bool → ℕ
-sourceSlot i false = i
-sourceSlot i true = i + 20
-
--- "Sphere slot is 10·origin + index, plus 120 if reflected"
-abbrev pub sphereSlot : ℕ → ℕ → Bool → ℕ
-sphereSlot o i false = o * 10 + i
-sphereSlot o i true = o * 10 + i + 120
-
--- ---- what an answered call leaves in the stores
-
--- whether the stores have their lengths, and the slots of an origin and an index are among theirs
-unfoldable pub hasSlots : List Float → List Float → ℕ → ℕ → Bool
-hasSlots face sphere o i = eqb (length face) FACE-STORE && (eqb (length sphere) SPHERE-STORE && (ltb o 12 && ltb i 10))
+-- a sphere slot, with the triangle that the call took
+unfoldable pub sphereWritten : List Float → Used → List Float
+sphereWritten store u = slotWritten SPHERE-WIDTH store (sphereSlot (u .origin) (u .index) (u .reflected)) (sphereRun (u .triangle))
 
 module _ (A : Arith) where
-  -- "An unreflected call uses face slot i and its sphere slot; a reflected one uses 10+i, 20+i and its sphere slot." "Empty used slots are written on success": a face slot with
-  -- the triangle defined for it
-  unfoldable pub keepFace : List Float → ℕ → List Float
-  keepFace store k = keep FACE-WIDTH store k (faceRun (faceTriangle A k))
+  -- a face slot, with the triangle defined for it
+  unfoldable pub faceWritten : List Float → ℕ → List Float
+  faceWritten store k = slotWritten FACE-WIDTH store k (faceRun (faceTriangle A k))
 
-  abbrev pub keepFaces : List Float → ℕ → Bool → List Float
-  keepFaces store i false = keepFace store i
-  keepFaces store i true = keepFace (keepFace store (faceSlot i true)) (sourceSlot i true)
+  abbrev pub facesWritten : List Float → ℕ → Bool → List Float
+  facesWritten store i false = faceWritten store (faceSlot i false)
+  facesWritten store i true = faceWritten (faceWritten store (faceSlot i true)) (sourceSlot i true)
 
-  -- the face store after the slots used are written: as it was where the stores have them not
-  unfoldable pub keptFaces : List Float → List Float → Used → List Float
-  keptFaces face sphere u = cond (hasSlots face sphere (u .origin) (u .index)) (keepFaces face (u .index) (u .reflected)) face
+  -- the slots used, in both stores
+  abbrev pub usedWritten : Set → Used → Set
+  usedWritten s u =
+      record {
+        frame = s .frame;
+        faces = facesWritten (s .faces) (u .index) (u .reflected);
+        spheres = sphereWritten (s .spheres) u;
+      }
 
--- a sphere slot with the triangle that the call took
-unfoldable pub keepSphere : List Float → Used → List Float
-keepSphere store u = keep SPHERE-WIDTH store (sphereSlot (u .origin) (u .index) (u .reflected)) (sphereRun (u .triangle))
+-- ---- the same for any set and any slots
 
--- and the sphere store
-unfoldable pub keptSphere : List Float → List Float → Used → List Float
-keptSphere face sphere u = cond (hasSlots face sphere (u .origin) (u .index)) (keepSphere sphere u) sphere
+abbrev pub passes : Given (Unit {0}) → Bool
+passes (answered u) = true
+passes (refused n) = false
+
+-- whether the set passes 1 to 4, and the slots used are among its
+unfoldable pub hasSlots : Set → Used → Bool
+hasSlots s u = passes (checkCall s (u .origin)) && ltb (u .index) 10
+
+-- written where the set has them, and else as it was
+unfoldable pub writtenIfThere : Arith → Set → Used → Set
+writtenIfThere A s u = cond (hasSlots s u) (usedWritten A s u) s

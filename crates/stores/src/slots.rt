@@ -1,4 +1,5 @@
-// Marked slots in a store: a mark and six coordinates for a face triangle, nine for a sphere triangle.
+// Marked slots in a store: which slot is whose, whether one is filled, and writing one. A slot is a
+// mark and six coordinates for a face triangle, nine for a sphere triangle.
 use coordinates::coords::FaceTriangle;
 use coordinates::coords::SphericalTriangle;
 use set::sizes::FACE_WIDTH;
@@ -10,8 +11,37 @@ ghost use lib.ListN.{length};
 ghost use Rattle.arithmetic.specs.Numbers.{1·0};
 ghost use Rattle.arithmetic.specs.Arith.{ieee};
 ghost use Rattle.set.specs.Sizes.{FACE-SLOTS, FACE-STORE, FACE-WIDTH, SPHERE-SLOTS, SPHERE-STORE, SPHERE-WIDTH};
-ghost use Rattle.stores.specs.Slots.{filled, put, keep, faceRun, sphereRun};
-ghost use Rattle.stores.specs.Used.{keepFace};
+ghost use Rattle.stores.specs.Slots.{filled, put, slotWritten, faceSlot, sourceSlot, sphereSlot, faceRun, sphereRun};
+ghost use Rattle.stores.specs.Used.{faceWritten};
+
+// The face slot of a point's own triangle, by its index and reflection.
+pub fn face_slot(index: u8, reflected: bool) -> usize
+    ensures { λ r. ⌜ r ≡ faceSlot index reflected ⌝ }
+{
+    let index = index as usize;
+    if reflected { index + 10 } else { index }
+}
+
+// The face slot that a sphere triangle is built from: a reflected one from the squashed triangle.
+pub fn source_slot(index: u8, reflected: bool) -> usize
+    ensures { λ r. ⌜ r ≡ sourceSlot index reflected ⌝ }
+{
+    let index = index as usize;
+    if reflected { index + 20 } else { index }
+}
+
+// The sphere slot of an origin's triangle.
+pub fn sphere_slot(origin: u8, index: u8, reflected: bool) -> usize
+    ensures { λ r. ⌜ r ≡ sphereSlot origin index reflected ⌝ }
+{
+    let origin = origin as usize;
+    let index = index as usize;
+    if reflected {
+        origin * 10 + index + 120
+    } else {
+        origin * 10 + index
+    }
+}
 
 // The mark 1.0 stands at the start of a filled slot. There is none behind the store's end.
 pub fn is_filled(store: &[f64], at: usize) -> bool
@@ -69,9 +99,9 @@ fn store_sphere(store: &mut [f64], at: usize, t: SphericalTriangle)
 }
 
 // An empty slot gets the triangle defined for it, and a filled one stays.
-pub(crate) fn keep_face(store: &mut [f64], slot: usize)
+pub(crate) fn write_face_slot(store: &mut [f64], slot: usize)
     requires { ⌜ (slot < FACE-SLOTS) × (length (now store) ≡ FACE-STORE) ⌝ }
-    ensures { λ _. ⌜ now (store .exit) ≡ keepFace ieee (now (store .entry)) slot ⌝ }
+    ensures { λ _. ⌜ now (store .exit) ≡ faceWritten ieee (now (store .entry)) slot ⌝ }
 {
     let at = slot * FACE_WIDTH;
     if is_filled(store, at) {
@@ -81,9 +111,9 @@ pub(crate) fn keep_face(store: &mut [f64], slot: usize)
 }
 
 // An empty slot gets the triangle t, and a filled one stays.
-pub(crate) fn keep_sphere_slot(store: &mut [f64], slot: usize, t: SphericalTriangle)
+pub(crate) fn write_sphere_slot(store: &mut [f64], slot: usize, t: SphericalTriangle)
     requires { ⌜ (slot < SPHERE-SLOTS) × (length (now store) ≡ SPHERE-STORE) ⌝ }
-    ensures { λ _. ⌜ now (store .exit) ≡ keep SPHERE-WIDTH (now (store .entry)) slot (sphereRun t) ⌝ }
+    ensures { λ _. ⌜ now (store .exit) ≡ slotWritten SPHERE-WIDTH (now (store .entry)) slot (sphereRun t) ⌝ }
 {
     let at = slot * SPHERE_WIDTH;
     if is_filled(store, at) {

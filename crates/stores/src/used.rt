@@ -1,74 +1,59 @@
 // What a call uses of a set, and the slots that it used written.
-use crate::slots::keep_face;
-use crate::slots::keep_sphere_slot;
+use crate::slots::face_slot;
+use crate::slots::source_slot;
+use crate::slots::sphere_slot;
+use crate::slots::write_face_slot;
+use crate::slots::write_sphere_slot;
+use answer::Check;
 use coordinates::coords::SphericalTriangle;
-use set::sizes::FACE_STORE;
-use set::sizes::SPHERE_STORE;
+use set::checks::check_call;
 ghost use mathlib.Core.Path.{_≡_};
 ghost use Prim.Native.Nat.{_<_};
 ghost use lib.ListN.{length};
 ghost use Rattle.arithmetic.specs.Arith.{ieee};
 ghost use Rattle.set.specs.Sizes.{FACE-STORE};
-ghost use Rattle.stores.specs.Used.{sphereSlot, hasSlots, keepFaces, keptFaces, keptSphere};
+ghost use Rattle.set.specs.Outcome.{lent, Becomes};
+ghost use Rattle.stores.specs.Used.{hasSlots, facesWritten, writtenIfThere};
 
 // The slots that a call uses are told by origin, index and reflection; the sphere triangle is the
 // one that it took.
 pub struct Used {
     pub origin: u8,
-    pub index: usize,
+    pub index: u8,
     pub reflected: bool,
     pub triangle: SphericalTriangle,
 }
 
-pub fn sphere_slot(origin: u8, index: u8, reflected: bool) -> usize
-    ensures { λ r. ⌜ r ≡ sphereSlot origin index reflected ⌝ }
+// Whether the set passes 1 to 4, and the slots used are among its.
+fn has_slots(frame: &[f64], face_store: &[f64], sphere_store: &[f64], used: Used) -> bool
+    ensures { λ r. ⌜ r ≡ hasSlots (lent frame «face_store» «sphere_store» .entry) used ⌝ }
 {
-    let origin = origin as usize;
-    let index = index as usize;
-    if reflected {
-        origin * 10 + index + 120
-    } else {
-        origin * 10 + index
+    let check = check_call(frame, face_store, sphere_store, used.origin);
+    if let Check::Refused(_) = check {
+        return false;
     }
-}
-
-// Whether the stores have their lengths, and the slots used are among theirs.
-fn has_slots(face_store: &[f64], sphere_store: &[f64], origin: u8, index: usize) -> bool
-    ensures { λ r. ⌜ r ≡ hasSlots (now («face_store» .entry)) (now («sphere_store» .entry)) origin index ⌝ }
-{
-    if face_store.len() == FACE_STORE {
-        if sphere_store.len() == SPHERE_STORE {
-            if origin < 12 {
-                return index < 10;
-            }
-        }
-    }
-    false
+    used.index < 10
 }
 
 // Writes the face slots that a call uses and that are empty.
-fn keep_faces(store: &mut [f64], index: usize, reflected: bool)
+fn write_faces(store: &mut [f64], index: u8, reflected: bool)
     requires { ⌜ (index < 10) × (length (now store) ≡ FACE-STORE) ⌝ }
-    ensures { λ _. ⌜ now (store .exit) ≡ keepFaces ieee (now (store .entry)) index reflected ⌝ }
+    ensures { λ _. ⌜ now (store .exit) ≡ facesWritten ieee (now (store .entry)) index reflected ⌝ }
 {
+    write_face_slot(store, face_slot(index, reflected));
     if reflected {
-        keep_face(store, index + 10);
-        keep_face(store, index + 20);
-        return;
+        write_face_slot(store, source_slot(index, reflected));
     }
-    keep_face(store, index);
 }
 
-// Writes the slots that an answered call used and that are empty; where the stores have not all of
-// them, nothing.
-pub fn keep_used(face_store: &mut [f64], sphere_store: &mut [f64], used: Used)
-    ensures { λ _. ⌜ now («face_store» .exit) ≡ keptFaces ieee (now («face_store» .entry)) (now («sphere_store» .entry)) used ⌝ }
-    ensures { λ _. ⌜ now («sphere_store» .exit) ≡ keptSphere (now («face_store» .entry)) (now («sphere_store» .entry)) used ⌝ }
+// Writes the slots that an answered call used and that are empty; where the set has not all of them,
+// nothing.
+pub fn write_used(frame: &[f64], face_store: &mut [f64], sphere_store: &mut [f64], used: Used)
+    ensures { λ _. ⌜ Becomes (lent frame «face_store» «sphere_store») (λ s. writtenIfThere ieee s used) ⌝ }
 {
-    let index = used.index;
-    if has_slots(face_store, sphere_store, used.origin, index) {
-        let slot = sphere_slot(used.origin, index as u8, used.reflected);
-        keep_faces(face_store, index, used.reflected);
-        keep_sphere_slot(sphere_store, slot, used.triangle);
+    if has_slots(frame, face_store, sphere_store, used) {
+        write_faces(face_store, used.index, used.reflected);
+        let slot = sphere_slot(used.origin, used.index, used.reflected);
+        write_sphere_slot(sphere_store, slot, used.triangle);
     }
 }

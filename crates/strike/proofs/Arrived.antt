@@ -1,29 +1,27 @@
--- What a read brought stands behind the kept bytes, and what feeding leaves in the buffers is where the session stands then. Assumes nothing.
-use mathlib.Core.Path.{_≡_, refl, sym, ap, _∙_, subst}
-use mathlib.Core.Bool.{Bool, true, false}
-use mathlib.Core.List.{List, _++_}
+-- What a read brought stands behind the kept bytes, and what feeding leaves in the buffers is where the session stands then. Assumes
+-- nothing.
+use mathlib.Core.Path.{_≡_, sym, ap, _∙_, subst}
+use mathlib.Core.List.{List, [], _++_}
 use Prim.Native.Nat.{ℕ, _+_, _≤_}
+use native.Mathlib.Nat.{zero-add}
 use native.Mathlib.Omega.{arith}
-use borrow.Author.Tests.{le-ltb}
-use lib.Dec.{ltb}
-use lib.Ieee.{Float}
 use lib.ListN.{length, take, drop, length-drop}
 use lib.Seq.{length-take-le, take-add, take-append-seam}
 use Rattle.answer.specs.Given.{Given, answered, refused}
 use Rattle.arithmetic.specs.Arith.{ieee}
 use Rattle.origin.specs.Origins.{ORIGINS}
-use Rattle.set.specs.Open.{openGiven}
+use Rattle.set.specs.Set.{Set}
+use Rattle.set.specs.Open.{openOn}
 use Rattle.stores.specs.Slots.{put}
-use Rattle.strike_records.specs.Line.{LINE, refusalLine}
-use Rattle.strike_records.specs.Record.{headed}
-use Rattle.strike_records.specs.Results.{Turns}
-use Rattle.strike_records.specs.Session.{Set, setOf, opened, MAX-RECORDS}
-use Rattle.strike_records.specs.Pieces.{Fed, still, answerable, recordsFed, fed, endLine, fitting, beginStage}
+use Rattle.strike_records.specs.Line.{LINE}
+use Rattle.strike_records.specs.Writes.{change}
+use Rattle.strike_records.specs.Results.{FeedsBuffer, WritesIfRoom}
+use Rattle.strike_records.specs.Pieces.{Fed, fed, endLine, fitting, leftOver, beginStage}
 use Rattle.strike_records.specs.declared.session.Stage.{Stage}
-use Rattle.strike_records.specs.declared.session.Stage.the-variants.{Header, Records, Stopped}
-use Rattle.strike_records.specs.declared.session.Turn.{Turn}
-use Rattle.strike_records.proofs.Lines.{set-is}
-use Rattle.strike.specs.Steps.{State, Begins, stateOf, begun, given, next, Read, Ended}
+use Rattle.strike_records.specs.declared.session.FedBuffer.{FedBuffer}
+use Rattle.strike_records.proofs.Written.{writes-as}
+use Rattle.strike_records.proofs.Results.{with-room}
+use Rattle.strike.specs.Steps.{State, Begins, begun, given, next, Read, Ended}
 
 -- the bytes that a read put behind the kept ones
 abbrev pub arrived : ℕ → ℕ → List ℕ → List ℕ
@@ -36,72 +34,44 @@ pub put-start : (xs ys : List ℕ) → take (length ys) (put xs 0 ys) ≡ ys
 unfolding put
 put-start xs ys = take-append-seam ys (drop (length ys) xs)
 
--- feeding leaves the frame
-module _ (frame : List Float) (face₀ sphere₀ : List Float) (face sphere : List Float) where
-  abbrev start : Set
-  start = setOf frame face₀ sphere₀
+-- where the session stands after feeding what a read brought, and the lines
+module _ (stage : Stage) (s₀ s₁ : Set) (kept n : ℕ) (buffer₀ buffer buffer₁ before out : List ℕ) (result : FedBuffer)
+    (same : take kept buffer ≡ take kept buffer₀)
+    (fed-from : FeedsBuffer stage (change s₀ s₁) (change buffer buffer₁) (kept + n) (change before out) result) where
+  abbrev from : State
+  from = record { stage = stage; set = s₀; kept = take kept buffer₀ }
 
-  abbrev Whole : Fed → Type 0
-  Whole f = face ≡ f .set .face → sphere ≡ f .set .sphere → setOf frame face sphere ≡ f .set
+  abbrev bytes : List ℕ
+  bytes = from .kept ++ arrived kept n buffer
 
-  at-rest : (stage : Stage) → Whole (still stage start)
-  at-rest stage p q = ap (λ (l : List Float). setOf frame l sphere) p ∙ ap (setOf frame face₀) q
+  whole : take (kept + n) buffer ≡ bytes
+  whole = take-add kept n buffer ∙ ap (λ (l : List ℕ). l ++ arrived kept n buffer) same
 
-  by-records : (header n : ℕ) (bytes : List ℕ) (k : ℕ) → Whole (recordsFed ieee ORIGINS header n start bytes k)
-  unfolding recordsFed
-  by-records header n bytes k = set-is ieee ORIGINS start bytes k face sphere
+  -- feeding the first bytes of the buffer is feeding those that are kept and those that arrived
+  abbrev feeding : List ℕ → Fed
+  feeding l = fed ieee ORIGINS stage s₀ l (length before)
 
-  fed-set : (stage : Stage) (bytes : List ℕ) (room : ℕ) → Whole (fed ieee ORIGINS stage start bytes room)
-  unfolding fed
-  fed-set Stopped bytes room = at-rest Stopped
-  fed-set (Records n) bytes room = by-records 0 n bytes (answerable n bytes room)
-  fed-set Header bytes room = by (ltb (length bytes) 5) (headed bytes) (ltb room LINE)
-    where
-      by : (short good narrow : Bool)
-          → Whole (elim short [
-            | true ↦ still Header start
-            | false ↦
-                elim good [
-                  | true ↦ recordsFed ieee ORIGINS 5 MAX-RECORDS start (drop 5 bytes) (answerable MAX-RECORDS (drop 5 bytes) room)
-                  | false ↦ elim narrow [ true ↦ still Header start | false ↦ record { stage = Stopped; taken = 5; lines = refusalLine 11; set = start } ]
-                ]
-          ])
-      by true good narrow = at-rest Header
-      by false true narrow = by-records 5 MAX-RECORDS (drop 5 bytes) (answerable MAX-RECORDS (drop 5 bytes) room)
-      by false false true = at-rest Header
-      by false false false = at-rest Stopped
+  same-fed : feeding (take (kept + n) buffer) ≡ given (length before) from (arrived kept n buffer)
+  same-fed = ap feeding whole
 
-  -- where the session stands after a turn, and the lines
-  module _ (stage : Stage) (kept n : ℕ) (buffer₀ buffer buffer₁ before out : List ℕ) (turn : Turn) (same : take kept buffer ≡ take kept buffer₀)
-      (turns : Turns (fed ieee ORIGINS stage start (take (kept + n) buffer) (length before)) (kept + n) turn buffer buffer₁ before out face sphere) where
-    abbrev from : State
-    from = stateOf stage kept frame face₀ sphere₀ buffer₀
+  rest-kept : take (result .kept) buffer₁ ≡ drop (feeding bytes .taken) bytes
+  rest-kept =
+      let rest = leftOver buffer (feeding (take (kept + n) buffer) .taken) (kept + n) in
+      let written = fed-from .kept in
+      ap (λ (k : ℕ). take k buffer₁) (written .end-is ∙ zero-add (length rest))
+      ∙ ap (take (length rest)) (written .now-is)
+      ∙ put-start buffer rest
+      ∙ ap (λ (l : List ℕ). drop (feeding l .taken) l) whole
 
-    abbrev bytes : List ℕ
-    bytes = from .kept ++ arrived kept n buffer
+  pub next-is : _≡_ {A = State} (record { stage = result .stage; set = s₁; kept = take (result .kept) buffer₁ })
+      (next (length before) from (arrived kept n buffer))
+  next-is =
+      let stage-is = fed-from .stage-is ∙ ap (λ (f : Fed). f .stage) same-fed in
+      let set-is = fed-from .left ∙ ap (λ (f : Fed). f .set) same-fed in
+      λ j. record { stage = stage-is j; set = set-is j; kept = rest-kept j }
 
-    whole : take (kept + n) buffer ≡ bytes
-    whole = take-add kept n buffer ∙ ap (λ (l : List ℕ). l ++ arrived kept n buffer) same
-
-    abbrev f : Fed
-    f = given (length before) from (arrived kept n buffer)
-
-    turned : Turns f (kept + n) turn buffer buffer₁ before out face sphere
-    turned = rw whole at turns
-
-    left : take (turn .kept) buffer₁ ≡ drop (f .taken) bytes
-    left =
-        let rest = drop (f .taken) (take (kept + n) buffer) in
-        ap (λ (k : ℕ). take k buffer₁) (turned .kept-is)
-        ∙ ap (take (length rest)) (turned .buffer-is)
-        ∙ put-start buffer rest
-        ∙ ap (drop (f .taken)) whole
-
-    pub next-is : stateOf (turn .stage) (turn .kept) frame face sphere buffer₁ ≡ next (length before) from (arrived kept n buffer)
-    next-is = rw (turned .stage-is, left, fed-set stage bytes (length before) (turned .face-is) (turned .sphere-is)) refl
-
-    pub lines-are : out ≡ put before 0 (f .lines)
-    lines-are = turned .out-is
+  pub lines-are : out ≡ put before 0 (given (length before) from (arrived kept n buffer) .lines)
+  lines-are = fed-from .lines .now-is ∙ ap (λ (f : Fed). put before 0 (f .lines)) same-fed
 
 -- ---- the session's ends
 
@@ -113,35 +83,27 @@ begins stage given e = subst Begins (sym e) (by given)
     by (refused n) = tt
 
 -- a session from where open left it is one from the set as it was
-module _ (frame face sphere frame₁ face₁ sphere₁ : List Float) (buffer before before₁ : List ℕ) (stage : Stage) where
-  abbrev held : Set
-  held = setOf frame face sphere
-
-  pub from-open : stage ≡ beginStage (openGiven ieee ORIGINS frame face sphere) → frame₁ ≡ opened ieee ORIGINS held .frame
-      → face₁ ≡ opened ieee ORIGINS held .face → sphere₁ ≡ opened ieee ORIGINS held .sphere → length before₁ ≡ length before
-      → (space : ℕ) (last : State) (written : ℕ) (out : List ℕ) → Ended space (length before₁) (stateOf stage 0 frame₁ face₁ sphere₁ buffer) last written out
-      → Ended space (length before) (begun held) last written out
-  from-open e f g h l space last written out ends =
-      let is : stateOf stage 0 frame₁ face₁ sphere₁ buffer ≡ begun held = rw (e, f, g, h) refl in
+module _ (s₀ s₁ : Set) (buffer before before₁ : List ℕ) (stage : Stage) where
+  pub from-open : stage ≡ beginStage (openOn ieee ORIGINS s₀ .answer) → s₁ ≡ openOn ieee ORIGINS s₀ .set → length before₁ ≡ length before
+      → (space : ℕ) (last : State) (written : ℕ) (out : List ℕ)
+      → Ended space (length before₁) (record { stage = stage; set = s₁; kept = take 0 buffer }) last written out
+      → Ended space (length before) (begun s₀) last written out
+  from-open e f l space last written out ends =
+      let is : _≡_ {A = State} (record { stage = stage; set = s₁; kept = take 0 buffer }) (begun s₀) = λ j. record { stage = e j; set = f j; kept = [] } in
       subst (λ (s : State). Ended space (length before) s last written out) is
-      (subst (λ (n : ℕ). Ended space n (stateOf stage 0 frame₁ face₁ sphere₁ buffer) last written out) l ends)
-
-fitting-whole : (room : ℕ) (line : List ℕ) → LINE ≤ room → fitting room line ≡ line
-unfolding fitting
-fitting-whole room line h = rw (le-ltb room LINE h, fitting)
+      (subst (λ (n : ℕ). Ended space n (record { stage = stage; set = s₁; kept = take 0 buffer }) last written out) l ends)
 
 -- with room for a line, the last line is the one that the input's end gives
-pub ended : (space room written kept : ℕ) (s last : State) (before out : List ℕ) → LINE ≤ length before → length (last .kept) ≡ kept → Read space room s last
-    → written ≡ length (fitting (length before) (endLine (last .stage) kept))
-    → out ≡ put before 0 (fitting (length before) (endLine (last .stage) kept)) → Ended space room s last written out
-ended space room written kept s last before out roomy k r w o =
+pub ended : (space room written kept : ℕ) (s last : State) (before out : List ℕ) → LINE ≤ length before → length (last .kept) ≡ kept
+    → Read space room s last → WritesIfRoom (change before out) (endLine (last .stage) kept) written → Ended space room s last written out
+ended space room written kept s last before out roomy k r w =
     let line = endLine (last .stage) (length (last .kept)) in
     let fits : fitting (length before) (endLine (last .stage) kept) ≡ line =
-    fitting-whole (length before) (endLine (last .stage) kept) roomy
-    ∙ ap (endLine (last .stage)) (sym k) in
-    let is : written ≡ length line = w ∙ ap length fits in
+    with-room (length before) (endLine (last .stage) kept) roomy ∙ ap (endLine (last .stage)) (sym k) in
+    let wrote = writes-as (w .line-is) line fits in
+    let is : written ≡ length line = wrote .end-is ∙ zero-add (length line) in
     record {
       read = r;
       written-is = is;
-      line-is = ap (λ (n : ℕ). take n out) is ∙ ap (take (length line)) (o ∙ ap (put before 0) fits) ∙ put-start before line;
+      line-is = ap (λ (n : ℕ). take n out) is ∙ ap (take (length line)) (wrote .now-is) ∙ put-start before line;
     }

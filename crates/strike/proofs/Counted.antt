@@ -13,7 +13,8 @@ use Rattle.arithmetic.specs.Arith.{ieee}
 use Rattle.origin.specs.Origins.{ORIGINS}
 use Rattle.strike_records.specs.Line.{LINE, refusalLine}
 use Rattle.strike_records.specs.Record.{headed}
-use Rattle.strike_records.specs.Session.{Set, MAX-RECORDS}
+use Rattle.set.specs.Set.{Set}
+use Rattle.strike_records.specs.Session.{MAX-RECORDS}
 use Rattle.strike_records.specs.Pieces.{Fed, still, answerable, recordsFed, fed, over}
 use Rattle.strike_records.specs.declared.session.Stage.{Stage}
 use Rattle.strike_records.specs.declared.session.Stage.the-variants.{Header, Records, Stopped}

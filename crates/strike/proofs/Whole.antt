@@ -7,9 +7,9 @@ use native.Mathlib.Omega.{arith}
 use lib.ListN.{length}
 use Rattle.arithmetic.specs.Arith.{ieee}
 use Rattle.origin.specs.Origins.{ORIGINS}
-use Rattle.set.specs.Open.{openGiven}
+use Rattle.set.specs.Open.{openOn}
 use Rattle.strike_records.specs.Line.{LINE}
-use Rattle.strike_records.specs.Session.{Set, program}
+use Rattle.strike_records.specs.Session.{program}
 use Rattle.strike_records.specs.Pieces.{Piece, joined, Roomy, piecewise, beginLine}
 use Rattle.strike_records.proofs.Cutting.{program-in-pieces}
 use Rattle.strike.specs.Steps.{State, begun, Read, none, more, bytesOf, linesOf, WholeSession}
@@ -59,7 +59,7 @@ module _ {space room : ℕ} {s : State} where
 
 pub whole-session : WholeSession
 whole-session space room s t h r =
-    let line = beginLine (openGiven ieee ORIGINS (s .frame) (s .face) (s .sphere)) in
+    let line = beginLine (openOn ieee ORIGINS s .answer) in
     ap (λ (l : List ℕ). line ++ l) (sym (in-pieces r []) ∙ ap (All (begun s)) (nothing-behind (pieces r)))
     ∙ program-in-pieces ieee ORIGINS s (pieces r) (all-roomy r h)
     ∙ ap (program ieee ORIGINS s) (all-bytes r)

@@ -2,15 +2,15 @@
 use Prim.Native.Nat.{ℕ, _+_, _*_, _/_, _≤_, _<_}
 use mathlib.Core.Path.{_≡_}
 use mathlib.Core.Bool.{Bool, true, false}
-use mathlib.Core.List.{List, [], _∷_, _++_}
-use lib.Ieee.{Float}
+use mathlib.Core.List.{List, [], _++_}
 use lib.ListN.{length, take, drop}
 use Rattle.arithmetic.specs.Arith.{ieee}
 use Rattle.origin.specs.Origins.{ORIGINS}
-use Rattle.set.specs.Open.{openGiven}
+use Rattle.set.specs.Set.{Set}
+use Rattle.set.specs.Open.{openOn}
 use Rattle.stores.specs.Slots.{put}
 use Rattle.strike_records.specs.Line.{LINE}
-use Rattle.strike_records.specs.Session.{Set, setOf, opened, program}
+use Rattle.strike_records.specs.Session.{program}
 use Rattle.strike_records.specs.Pieces.{Fed, fed, endLine, over, beginStage, beginLine}
 use Rattle.strike_records.specs.declared.session.Stage.{Stage}
 use Rattle.strike_records.specs.declared.session.Stage.the-variants.{Header, Records, Stopped}
@@ -22,8 +22,8 @@ pub record State : Type 0 where
   pub kept : List ℕ
 
 -- the same from what the program holds: the bytes that were not taken are the buffer's first
-abbrev pub stateOf : Stage → ℕ → List Float → List Float → List Float → List ℕ → State
-stateOf stage kept frame face sphere buffer = record { stage = stage; set = setOf frame face sphere; kept = take kept buffer }
+abbrev pub stateOf : Stage → ℕ → Set → List ℕ → State
+stateOf stage kept set buffer = record { stage = stage; set = set; kept = take kept buffer }
 
 -- where a session begins, as open answered or refused
 abbrev pub Begins : Stage → Type 0
@@ -69,11 +69,8 @@ pub record Ended (space room : ℕ) (s last : State) (written : ℕ) (out : List
 -- where a session begins on a set that held anything: what open gives, the set after it, and no bytes
 abbrev pub begun : Set → State
 begun s =
-    record {
-      stage = beginStage (openGiven ieee ORIGINS (s .frame) (s .face) (s .sphere));
-      set = opened ieee ORIGINS s;
-      kept = [];
-    }
+    let opened = openOn ieee ORIGINS s in
+    record { stage = beginStage (opened .answer); set = opened .set; kept = [] }
 
 -- ---- all reads together
 
@@ -92,5 +89,5 @@ module _ {space room : ℕ} {s : State} where
 abbrev pub WholeSession : Type 0
 WholeSession =
     (space room : ℕ) (s : Set) (t : State) → (space / 10 + 1) * LINE ≤ room → (r : Read space room (begun s) t)
-    → beginLine (openGiven ieee ORIGINS (s .frame) (s .face) (s .sphere)) ++ (linesOf r ++ endLine (t .stage) (length (t .kept)))
+    → beginLine (openOn ieee ORIGINS s .answer) ++ (linesOf r ++ endLine (t .stage) (length (t .kept)))
     ≡ program ieee ORIGINS s (bytesOf r)

@@ -13,7 +13,7 @@ ghost use mathlib.Core.Bool.{true, false};
 ghost use Prim.Native.Nat.{_+_, _≤_, _<_};
 ghost use lib.ListN.{length, take};
 ghost use Rattle.strike_records.specs.Pieces.{over};
-ghost use Rattle.strike_records.specs.Session.{setOf};
+ghost use Rattle.set.specs.Outcome.{lent};
 ghost use Rattle.strike.specs.Steps.{Begins, Roomy, stateOf, begun, Stepped, Read, Ended};
 
 // Between two reads: where the session stands, how many bytes of the buffer were not taken, whether
@@ -47,15 +47,15 @@ fn read_behind(buffer: &mut [u8], kept: usize) -> usize
 fn step(
     at: Standing,
     frame: &[f64],
-    face: &mut [f64],
-    sphere: &mut [f64],
+    face_store: &mut [f64],
+    sphere_store: &mut [f64],
     buffer: &mut [u8],
     out: &mut [u8],
 ) -> Standing
     requires { ⌜ (over (at .stage) ≡ false → at .kept < length (now buffer)) × (at .kept ≤ length (now buffer)) ⌝ }
     ensures stepped { λ r. ⌜ Stepped (length (now (buffer .entry)))
-        (stateOf (at .stage) (at .kept) (now (frame .entry)) (now (face .entry)) (now (sphere .entry)) (now (buffer .entry)))
-        (stateOf (r .stage) (r .kept) (now (frame .entry)) (now (face .exit)) (now (sphere .exit)) (now (buffer .exit)))
+        (stateOf (at .stage) (at .kept) (lent frame «face_store» «sphere_store» .entry) (now (buffer .entry)))
+        (stateOf (r .stage) (r .kept) (lent frame «face_store» «sphere_store» .exit) (now (buffer .exit)))
         (now (out .entry)) (now (out .exit)) (r .ended) (r .lost) ⌝ }
     ensures held { λ r. ⌜ r .kept ≤ length (now (buffer .exit)) ⌝ }
 {
@@ -78,7 +78,15 @@ fn step(
             lost: false,
         };
     }
-    let turn = feed_buffer(stage, frame, face, sphere, buffer, kept + n, out);
+    let turn = feed_buffer(
+        stage,
+        frame,
+        face_store,
+        sphere_store,
+        buffer,
+        kept + n,
+        out,
+    );
     let lost = !io::write_all(STDOUT_FILENO, &out[..turn.written]);
     let next = turn.stage;
     Standing {
@@ -95,16 +103,16 @@ fn step(
 fn read_all(
     stage: Stage,
     frame: &[f64],
-    face: &mut [f64],
-    sphere: &mut [f64],
+    face_store: &mut [f64],
+    sphere_store: &mut [f64],
     buffer: &mut [u8],
     out: &mut [u8],
 ) -> Standing
     requires { ⌜ Begins stage × Roomy (now buffer) (now out) ⌝ }
     ensures ended { λ r. ⌜ r .ended ≡ true ⌝ }
     ensures read { λ r. ⌜ Read (length (now (buffer .entry))) (length (now (out .entry)))
-        (stateOf stage 0 (now (frame .entry)) (now (face .entry)) (now (sphere .entry)) (now (buffer .entry)))
-        (stateOf (r .stage) (r .kept) (now (frame .entry)) (now (face .exit)) (now (sphere .exit)) (now (buffer .exit))) ⌝ }
+        (stateOf stage 0 (lent frame «face_store» «sphere_store» .entry) (now (buffer .entry)))
+        (stateOf (r .stage) (r .kept) (lent frame «face_store» «sphere_store» .exit) (now (buffer .exit))) ⌝ }
     ensures held { λ r. ⌜ r .kept ≤ length (now (buffer .exit)) ⌝ }
 {
     let mut at = Standing {
@@ -115,7 +123,7 @@ fn read_all(
     };
     let mut reads: u64 = 42_949_672_960;
     while reads > 0 && !at.ended {
-        at = step(at, frame, face, sphere, buffer, out);
+        at = step(at, frame, face_store, sphere_store, buffer, out);
         reads -= 1;
     }
     at
@@ -134,19 +142,19 @@ struct Last {
 fn answer_all(
     stage: Stage,
     frame: &[f64],
-    face: &mut [f64],
-    sphere: &mut [f64],
+    face_store: &mut [f64],
+    sphere_store: &mut [f64],
     buffer: &mut [u8],
     out: &mut [u8],
 ) -> Last
     requires { ⌜ Begins stage × Roomy (now buffer) (now out) ⌝ }
     ensures ends { λ r. ⌜ Ended (length (now (buffer .entry))) (length (now (out .entry)))
-        (stateOf stage 0 (now (frame .entry)) (now (face .entry)) (now (sphere .entry)) (now (buffer .entry)))
-        (stateOf (r .stage) (r .kept) (now (frame .entry)) (now (face .exit)) (now (sphere .exit)) (now (buffer .exit)))
+        (stateOf stage 0 (lent frame «face_store» «sphere_store» .entry) (now (buffer .entry)))
+        (stateOf (r .stage) (r .kept) (lent frame «face_store» «sphere_store» .exit) (now (buffer .exit)))
         (r .written) (now (out .exit)) ⌝ }
     ensures held { λ r. ⌜ r .written ≤ length (now (out .exit)) ⌝ }
 {
-    let at = read_all(stage, frame, face, sphere, buffer, out);
+    let at = read_all(stage, frame, face_store, sphere_store, buffer, out);
     let last = at.stage;
     let written = finish(last, at.kept, out);
     Last {
@@ -161,21 +169,21 @@ fn answer_all(
 // not matter whether that line is written. After a write that failed nothing more is written.
 fn run(
     frame: &mut [f64],
-    face: &mut [f64],
-    sphere: &mut [f64],
+    face_store: &mut [f64],
+    sphere_store: &mut [f64],
     buffer: &mut [u8],
     out: &mut [u8],
 ) -> Last
     requires { ⌜ Roomy (now buffer) (now out) ⌝ }
     ensures { λ r. ⌜ Ended (length (now (buffer .entry))) (length (now (out .entry)))
-        (begun (setOf (now (frame .entry)) (now (face .entry)) (now (sphere .entry))))
-        (stateOf (r .stage) (r .kept) (now (frame .exit)) (now (face .exit)) (now (sphere .exit)) (now (buffer .exit)))
+        (begun (lent frame «face_store» «sphere_store» .entry))
+        (stateOf (r .stage) (r .kept) (lent frame «face_store» «sphere_store» .exit) (now (buffer .exit)))
         (r .written) (now (out .exit)) ⌝ }
 {
-    let begun = begin(frame, face, sphere, out);
+    let begun = begin(frame, face_store, sphere_store, out);
     let stage = begun.stage;
     io::write_all(STDOUT_FILENO, &out[..begun.written]);
-    let last = answer_all(stage, frame, face, sphere, buffer, out);
+    let last = answer_all(stage, frame, face_store, sphere_store, buffer, out);
     if !last.lost {
         io::write_all(STDOUT_FILENO, &out[..last.written]);
     }
@@ -191,9 +199,15 @@ fn room() -> [u8; 262160]
 
 fn main() {
     let mut frame = [0.0; 186];
-    let mut face = [0.0; 210];
-    let mut sphere = [0.0; 2400];
+    let mut face_store = [0.0; 210];
+    let mut sphere_store = [0.0; 2400];
     let mut buffer = io::large_buffer();
     let mut out = room();
-    run(&mut frame, &mut face, &mut sphere, &mut buffer, &mut out);
+    run(
+        &mut frame,
+        &mut face_store,
+        &mut sphere_store,
+        &mut buffer,
+        &mut out,
+    );
 }

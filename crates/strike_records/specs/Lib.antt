@@ -1,5 +1,6 @@
 -- Document 01, "The strike program". Definitions only.
 pub mod Line
+pub mod Writes
 pub mod Record
 pub mod Session
 pub mod Pieces

@@ -4,14 +4,9 @@ use mathlib.Core.Bool.{cond}
 use mathlib.Core.List.{List, [], _∷_, _++_}
 use lib.Dec.{ltb}
 use lib.Ieee.{Float, binary64, toBits}
+pub use Rattle.decimal.specs.Bytes.{SPACE, NEWLINE}
 use Rattle.coordinates.specs.declared.lonlat.LonLat.{LonLat}
-use Rattle.dodecahedron.specs.declared.used.Place.{Place}
-
-abbrev pub SPACE : ℕ
-SPACE = 32
-
-abbrev pub NEWLINE : ℕ
-NEWLINE = 10
+use Rattle.dodecahedron.specs.declared.place.Place.{Place}
 
 -- room for any line
 abbrev pub LINE : ℕ

@@ -1,4 +1,5 @@
--- Document 01, "The strike program": a session whose input arrives in pieces. Bytes that are not taken yet are kept, and what arrives next stands behind them. Definitions only.
+-- Document 01, "The strike program": a session whose input arrives in pieces. Bytes that are not taken yet are kept, and what arrives
+-- next stands behind them. Definitions only.
 use Prim.Native.Nat.{ℕ, zero, suc, _+_, _*_, _-_, _/_, _≤_, min}
 use mathlib.Core.Bool.{Bool, true, false}
 use mathlib.Core.List.{List, [], _∷_, _++_}
@@ -7,10 +8,11 @@ use lib.ListN.{length, take, drop}
 use lib.Ieee.{Float}
 use Rattle.answer.specs.Given.{Given, answered, refused}
 use Rattle.arithmetic.specs.Arith.{Arith}
-use Rattle.set.specs.Open.{openGiven}
+use Rattle.set.specs.Set.{Set}
+use Rattle.set.specs.Open.{openOn}
 use Rattle.strike_records.specs.Line.{LINE, refusalLine}
 use Rattle.strike_records.specs.Record.{headed}
-use Rattle.strike_records.specs.Session.{Set, MAX-RECORDS, recordLine, recordSet, opened}
+use Rattle.strike_records.specs.Session.{MAX-RECORDS, Reply, reply}
 use Rattle.strike_records.specs.declared.session.Stage.{Stage}
 use Rattle.strike_records.specs.declared.session.Stage.the-variants.{Header, Records, Stopped}
 
@@ -33,20 +35,23 @@ pub record Fed : Type 0 where
 abbrev pub still : Stage → Set → Fed
 still stage s = record { stage = stage; taken = 0; lines = []; set = s }
 
-module _ (A : Arith) (table : List Float) where
-  -- the set after the first k records, and their lines
-  unfoldable pub setAfter : Set → List ℕ → ℕ → Set
-  setAfter s bytes zero = s
-  setAfter s bytes (suc k) = recordSet A table (setAfter s bytes k) (recordAt bytes k)
+-- 11 ends the session
+abbrev pub wrongHeader : Set → Fed
+wrongHeader s = record { stage = Stopped; taken = 5; lines = refusalLine 11; set = s }
 
-  unfoldable pub linesOf : Set → List ℕ → ℕ → List ℕ
-  linesOf s bytes zero = []
-  linesOf s bytes (suc k) = linesOf s bytes k ++ recordLine A table (setAfter s bytes k) (recordAt bytes k)
+module _ (A : Arith) (table : List Float) where
+  -- the first k records: their lines, and the set after them
+  unfoldable pub replies : Set → List ℕ → ℕ → Reply
+  replies s bytes zero = record { lines = []; set = s }
+  replies s bytes (suc k) =
+      let sofar = replies s bytes k in
+      let next = reply A table (sofar .set) (recordAt bytes k) in
+      record { lines = sofar .lines ++ next .lines; set = next .set }
 
   -- k of n records, behind so many bytes of the header
   unfoldable pub recordsFed : ℕ → ℕ → Set → List ℕ → ℕ → Fed
   recordsFed header n s bytes k =
-      record { stage = Records (n - k); taken = header + k * 10; lines = linesOf s bytes k; set = setAfter s bytes k }
+      record { stage = Records (n - k); taken = header + k * 10; lines = replies s bytes k .lines; set = replies s bytes k .set }
 
   -- all that can be answered of what has arrived, with that much room for lines; nothing without room for a line
   unfoldable pub fed : Stage → Set → List ℕ → ℕ → Fed
@@ -58,7 +63,7 @@ module _ (A : Arith) (table : List Float) where
         | false ↦
             elim (headed bytes) [
               | true ↦ recordsFed 5 MAX-RECORDS s (drop 5 bytes) (answerable MAX-RECORDS (drop 5 bytes) room)
-              | false ↦ elim (ltb room LINE) [ true ↦ still Header s | false ↦ record { stage = Stopped; taken = 5; lines = refusalLine 11; set = s } ]
+              | false ↦ elim (ltb room LINE) [ true ↦ still Header s | false ↦ wrongHeader s ]
             ]
       ]
 
@@ -80,7 +85,7 @@ over Stopped = true
 unfoldable pub fitting : ℕ → List ℕ → List ℕ
 fitting room line = elim (ltb room LINE) [ true ↦ [] | false ↦ line ]
 
--- where a session begins: nowhere, if open refused
+-- where a session begins, by what open gave: nowhere, if it refused
 abbrev pub beginStage : Given (Unit {0}) → Stage
 beginStage (answered u) = Header
 beginStage (refused n) = Stopped
@@ -121,5 +126,5 @@ module _ (A : Arith) (table : List Float) where
   -- the same from the start: what open gives, and the set after it
   abbrev pub programPiecewise : Set → List Piece → List ℕ
   programPiecewise s ps =
-      let given = openGiven A table (s .frame) (s .face) (s .sphere) in
-      beginLine given ++ piecewise (beginStage given) (opened A table s) [] ps
+      let opened = openOn A table s in
+      beginLine (opened .answer) ++ piecewise (beginStage (opened .answer)) (opened .set) [] ps

@@ -8,15 +8,14 @@ use answer::Refusal;
 use set::open::OpenAnswer;
 ghost use mathlib.Core.Path.{_≡_};
 ghost use Prim.Native.Nat.{_≤_, min};
-ghost use lib.ListN.{length, take};
+ghost use lib.ListN.{length};
 ghost use Rattle.arithmetic.specs.Arith.{ieee};
 ghost use Rattle.origin.specs.Origins.{ORIGINS};
-ghost use Rattle.stores.specs.Slots.{put};
-ghost use Rattle.set.specs.Open.{openGiven};
+ghost use Rattle.set.specs.Outcome.{lent};
 ghost use Rattle.strike_records.specs.Line.{refusalLine};
-ghost use Rattle.strike_records.specs.Session.{setOf, opened};
-ghost use Rattle.strike_records.specs.Pieces.{answerable, recordsFed, fed, endLine, fitting, beginStage, beginLine, over, leftOver};
-ghost use Rattle.strike_records.specs.Results.{Feeds, Turns};
+ghost use Rattle.strike_records.specs.Pieces.{answerable, recordsFed, fed, endLine, over, leftOver};
+ghost use Rattle.strike_records.specs.Writes.{Writes, lentBytes};
+ghost use Rattle.strike_records.specs.Results.{Feeds, FeedsBuffer, WritesIfRoom, Opens};
 ghost use Rattle.strike_records.specs.declared.session.Stage.the-variants.{Header};
 
 // The records that are still taken, after the header; a stopped session takes nothing more.
@@ -26,23 +25,28 @@ pub enum Stage {
     Stopped,
 }
 
+// What begin hands back: where the session stands, and how many bytes its line has.
 pub struct Begun {
     pub stage: Stage,
     pub written: usize,
 }
 
-pub struct Turn {
-    pub stage: Stage,
-    pub kept: usize,
-    pub written: usize,
-}
-
+// What feeding hands back: where the session stands then, how many bytes of the input it took, and
+// how many its lines have.
 pub struct Fed {
     pub stage: Stage,
     pub taken: usize,
     pub written: usize,
 }
 
+// The same of a buffer: how many bytes at its start were not taken.
+pub struct FedBuffer {
+    pub stage: Stage,
+    pub kept: usize,
+    pub written: usize,
+}
+
+// The smaller of two numbers.
 fn least(a: usize, b: usize) -> usize
     ensures { λ r. ⌜ r ≡ min a b ⌝ }
 {
@@ -52,18 +56,19 @@ fn least(a: usize, b: usize) -> usize
 // All records that can be answered, behind so many bytes of the header.
 fn feed_records(
     frame: &[f64],
-    face: &mut [f64],
-    sphere: &mut [f64],
+    face_store: &mut [f64],
+    sphere_store: &mut [f64],
     header: usize,
     left: u32,
     input: &[u8],
     out: &mut [u8],
 ) -> Fed
     requires { ⌜ header ≤ 5 ⌝ }
-    ensures { λ r. ⌜ Feeds (recordsFed ieee ORIGINS header left (setOf (now (frame .entry)) (now (face .entry)) (now (sphere .entry))) (now (input .entry)) (answerable left (now (input .entry)) (length (now (out .entry))))) r (now (out .entry)) (now (out .exit)) (now (face .exit)) (now (sphere .exit)) ⌝ }
+    ensures { λ r. ⌜ Feeds (lent frame «face_store» «sphere_store») (lentBytes out) r
+        (λ s. recordsFed ieee ORIGINS header left s (now (input .entry)) (answerable left (now (input .entry)) (length (now (out .entry))))) ⌝ }
 {
     let count = least(left as usize, least(input.len() / 10, out.len() / LINE));
-    let written = answer_records(frame, face, sphere, input, out, count);
+    let written = answer_records(frame, face_store, sphere_store, input, out, count);
     Fed {
         stage: Stage::Records(left - count as u32),
         taken: header + count * 10,
@@ -74,12 +79,13 @@ fn feed_records(
 // The header, and the records behind it.
 fn feed_header(
     frame: &[f64],
-    face: &mut [f64],
-    sphere: &mut [f64],
+    face_store: &mut [f64],
+    sphere_store: &mut [f64],
     input: &[u8],
     out: &mut [u8],
 ) -> Fed
-    ensures { λ r. ⌜ Feeds (fed ieee ORIGINS Header (setOf (now (frame .entry)) (now (face .entry)) (now (sphere .entry))) (now (input .entry)) (length (now (out .entry)))) r (now (out .entry)) (now (out .exit)) (now (face .exit)) (now (sphere .exit)) ⌝ }
+    ensures { λ r. ⌜ Feeds (lent frame «face_store» «sphere_store») (lentBytes out) r
+        (λ s. fed ieee ORIGINS Header s (now (input .entry)) (length (now (out .entry)))) ⌝ }
 {
     let nothing = Fed {
         stage: Stage::Header,
@@ -90,7 +96,15 @@ fn feed_header(
         return nothing;
     }
     if is_header(input) {
-        return feed_records(frame, face, sphere, 5, 0xffff_ffff, &input[5..], out);
+        return feed_records(
+            frame,
+            face_store,
+            sphere_store,
+            5,
+            0xffff_ffff,
+            &input[5..],
+            out,
+        );
     }
     if out.len() < LINE {
         return nothing;
@@ -108,17 +122,18 @@ fn feed_header(
 pub fn feed(
     stage: Stage,
     frame: &[f64],
-    face: &mut [f64],
-    sphere: &mut [f64],
+    face_store: &mut [f64],
+    sphere_store: &mut [f64],
     input: &[u8],
     out: &mut [u8],
 ) -> Fed
-    ensures { λ r. ⌜ Feeds (fed ieee ORIGINS stage (setOf (now (frame .entry)) (now (face .entry)) (now (sphere .entry))) (now (input .entry)) (length (now (out .entry)))) r (now (out .entry)) (now (out .exit)) (now (face .exit)) (now (sphere .exit)) ⌝ }
-    ensures { λ r. ⌜ (r .taken ≤ length (now (input .entry))) × (r .written ≤ length (now (out .entry))) ⌝ }
+    ensures fed { λ r. ⌜ Feeds (lent frame «face_store» «sphere_store») (lentBytes out) r
+        (λ s. fed ieee ORIGINS stage s (now (input .entry)) (length (now (out .entry)))) ⌝ }
+    ensures within { λ r. ⌜ (r .taken ≤ length (now (input .entry))) × (r .written ≤ length (now (out .entry))) ⌝ }
 {
     match stage {
-        Stage::Header => feed_header(frame, face, sphere, input, out),
-        Stage::Records(left) => feed_records(frame, face, sphere, 0, left, input, out),
+        Stage::Header => feed_header(frame, face_store, sphere_store, input, out),
+        Stage::Records(left) => feed_records(frame, face_store, sphere_store, 0, left, input, out),
         Stage::Stopped => Fed {
             stage,
             taken: 0,
@@ -132,20 +147,19 @@ pub fn feed(
 pub fn feed_buffer(
     stage: Stage,
     frame: &[f64],
-    face: &mut [f64],
-    sphere: &mut [f64],
+    face_store: &mut [f64],
+    sphere_store: &mut [f64],
     buffer: &mut [u8],
     filled: usize,
     out: &mut [u8],
-) -> Turn
-    ensures { λ r. ⌜ Turns (fed ieee ORIGINS stage (setOf (now (frame .entry)) (now (face .entry)) (now (sphere .entry))) (take filled (now (buffer .entry))) (length (now (out .entry)))) filled r (now (buffer .entry)) (now (buffer .exit)) (now (out .entry)) (now (out .exit)) (now (face .exit)) (now (sphere .exit)) ⌝ }
-    ensures { λ r. ⌜ (r .kept ≤ length (now (buffer .entry))) × (r .written ≤ length (now (out .entry))) ⌝ }
+) -> FedBuffer
+    ensures { λ r. ⌜ FeedsBuffer stage (lent frame «face_store» «sphere_store») (lentBytes buffer) filled (lentBytes out) r ⌝ }
 {
     let end = least(filled, buffer.len());
-    let fed = feed(stage, frame, face, sphere, &buffer[..end], out);
+    let fed = feed(stage, frame, face_store, sphere_store, &buffer[..end], out);
     let kept = keep_rest(buffer, fed.taken, end);
     let next = fed.stage;
-    Turn {
+    FedBuffer {
         stage: next,
         kept,
         written: fed.written,
@@ -153,16 +167,15 @@ pub fn feed_buffer(
 }
 
 // Opens the set, before anything is read. Where open refuses, that is the only line.
-pub fn begin(frame: &mut [f64], face: &mut [f64], sphere: &mut [f64], out: &mut [u8]) -> Begun
-    ensures { λ r. ⌜ r .stage ≡ beginStage (openGiven ieee ORIGINS (now (frame .entry)) (now (face .entry)) (now (sphere .entry))) ⌝ }
-    ensures { λ r. ⌜ r .written ≡ length (fitting (length (now (out .entry))) (beginLine (openGiven ieee ORIGINS (now (frame .entry)) (now (face .entry)) (now (sphere .entry))))) ⌝ }
-    ensures { λ _. ⌜ now (out .exit) ≡ put (now (out .entry)) 0 (fitting (length (now (out .entry))) (beginLine (openGiven ieee ORIGINS (now (frame .entry)) (now (face .entry)) (now (sphere .entry))))) ⌝ }
-    ensures { λ _. ⌜ now (frame .exit) ≡ opened ieee ORIGINS (setOf (now (frame .entry)) (now (face .entry)) (now (sphere .entry))) .frame ⌝ }
-    ensures { λ _. ⌜ now (face .exit) ≡ opened ieee ORIGINS (setOf (now (frame .entry)) (now (face .entry)) (now (sphere .entry))) .face ⌝ }
-    ensures { λ _. ⌜ now (sphere .exit) ≡ opened ieee ORIGINS (setOf (now (frame .entry)) (now (face .entry)) (now (sphere .entry))) .sphere ⌝ }
-    ensures { λ r. ⌜ r .written ≤ length (now (out .entry)) ⌝ }
+pub fn begin(
+    frame: &mut [f64],
+    face_store: &mut [f64],
+    sphere_store: &mut [f64],
+    out: &mut [u8],
+) -> Begun
+    ensures { λ r. ⌜ Opens (lent frame «face_store» «sphere_store») (lentBytes out) r ⌝ }
 {
-    match set::open::open(frame, face, sphere) {
+    match set::open::open(frame, face_store, sphere_store) {
         OpenAnswer::Opened => Begun {
             stage: Stage::Header,
             written: 0,
@@ -176,9 +189,7 @@ pub fn begin(frame: &mut [f64], face: &mut [f64], sphere: &mut [f64], out: &mut 
 
 // A refusal's line, where there is room for a line.
 fn write_fitting(out: &mut [u8], number: u8) -> usize
-    ensures { λ r. ⌜ r ≡ length (fitting (length (now (out .entry))) (refusalLine number)) ⌝ }
-    ensures { λ _. ⌜ now (out .exit) ≡ put (now (out .entry)) 0 (fitting (length (now (out .entry))) (refusalLine number)) ⌝ }
-    ensures { λ r. ⌜ r ≤ length (now (out .entry)) ⌝ }
+    ensures { λ r. ⌜ WritesIfRoom (lentBytes out) (refusalLine number) r ⌝ }
 {
     if out.len() < LINE {
         return 0;
@@ -188,9 +199,7 @@ fn write_fitting(out: &mut [u8], number: u8) -> usize
 
 // The input's end, with so many bytes that were not taken.
 pub fn finish(stage: Stage, kept: usize, out: &mut [u8]) -> usize
-    ensures { λ r. ⌜ r ≡ length (fitting (length (now (out .entry))) (endLine stage kept)) ⌝ }
-    ensures { λ _. ⌜ now (out .exit) ≡ put (now (out .entry)) 0 (fitting (length (now (out .entry))) (endLine stage kept)) ⌝ }
-    ensures { λ r. ⌜ r ≤ length (now (out .entry)) ⌝ }
+    ensures { λ r. ⌜ WritesIfRoom (lentBytes out) (endLine stage kept) r ⌝ }
 {
     match stage {
         Stage::Header => write_fitting(out, answer::number(Refusal::Header)),
@@ -220,9 +229,8 @@ pub fn is_over(stage: Stage) -> bool
 
 // Moves what was not taken of a buffer's first bytes to its start, and returns how many that are.
 fn keep_rest(buffer: &mut [u8], taken: usize, filled: usize) -> usize
-    ensures { λ r. ⌜ r ≡ length (leftOver (now (buffer .entry)) taken filled) ⌝ }
-    ensures { λ _. ⌜ now (buffer .exit) ≡ put (now (buffer .entry)) 0 (leftOver (now (buffer .entry)) taken filled) ⌝ }
-    ensures { λ r. ⌜ r ≤ length (now (buffer .entry)) ⌝ }
+    ensures rest { λ r. ⌜ Writes (lentBytes buffer) 0 (leftOver (now (buffer .entry)) taken filled) r ⌝ }
+    ensures within { λ r. ⌜ r ≤ length (now (buffer .entry)) ⌝ }
 {
     let end = least(filled, buffer.len());
     let mut from = taken;

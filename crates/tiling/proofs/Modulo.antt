@@ -1,8 +1,8 @@
--- Whole numbers mod 10: the index lies in 0..9 for every gamma; ten more changes nothing; and the index of a value from its sign and its whole part, or what is left of
--- it by 10. Assumes nothing.
+-- Whole numbers mod 10: the index lies in 0..9 for every gamma; ten more changes nothing; the index of a value from its sign and its whole
+-- part, or what is left of it by 10; and floor, cut to a whole number, is the whole number that it stands for. Assumes nothing.
 use mathlib.Core.Path.{_≡_, refl, sym, ap, _∙_, subst}
 use Prim.Native.Nat.{ℕ, zero, suc, _-_, _*_, _/_, _%_, _^_, _<_}
-use native.Mathlib.Nat.{mod-lt, lt-trans, div-lt-iff-lt-mul}
+use native.Mathlib.Nat.{mod-lt, lt-trans, div-lt-iff-lt-mul, mul-div-cancel}
 use native.Mathlib.Omega.{arith}
 use mathlib.Core.Bool.{Bool, true, false, cond, false≢true, true≢false}
 use borrow.Author.Tests.{ltb-true, ltb-false}
@@ -13,15 +13,18 @@ use lib.Pow.{pow-pos}
 use lib.Ieee.{Float, nan, inf, fin, binary64, up, down, rem, lt, ofBits, toUnsigned, fits}
 use lib.Ieee.Fits.{down-pos}
 use lib.Ieee.Nearest.{div-same}
-use lib.Ieee.Positive.{num, den}
+use lib.Ieee.Positive.{num, den, den-pos}
 use Rattle.answer.specs.Number.{isFinite}
-use Rattle.arithmetic.specs.Arith.{Arith}
+use Rattle.arithmetic.specs.Arith.{Arith, ieee}
 use Rattle.arithmetic.proofs.Compared.{cut-asks, cut-value}
 use Rattle.arithmetic.proofs.Remainder.{rem-exact}
 use Rattle.arithmetic.proofs.Units.{Units, rise, count}
 use Rattle.square_root.specs.Signs.{abs, negative}
+use Rattle.elementary.specs.Whole.{signed, floorSize, floor, floorℤ}
+use Rattle.elementary.proofs.Values.{floor-sized}
 use Rattle.coordinates.specs.declared.base.Radians.{Radians}
-use Rattle.tiling.specs.Index.{asWhole, modulo10, triangleIndex}
+use Rattle.tiling.specs.Index.{modulo10, triangleIndex}
+use Rattle.tiling.specs.Cut.{asWhole}
 
 -- ---- whole numbers
 
@@ -43,10 +46,6 @@ ten-more (negsuc k) = go (ltb 10 (suc k)) refl
     go : (b : Bool) → ltb 10 (suc k) ≡ b → modulo10 (cond b (negsuc (suc k - 11)) (pos (10 - suc k))) ≡ 9 - k % 10
     go true e = omega (arith, ltb-true 10 (suc k) e)
     go false e = omega (arith, ltb-false 10 (suc k) e)
-
--- k or -k
-abbrev pub signed : Bool → ℕ → ℤ
-signed s k = cond s (negℤ (pos k)) (pos k)
 
 pub minus-modulo : (k : ℕ) → (10 - k % 10) % 10 ≡ modulo10 (negℤ (pos k))
 unfolding modulo10
@@ -81,6 +80,16 @@ not-finite nan f = refl
 not-finite (inf s) f = refl
 not-finite (fin s m e) f = absurd (true≢false f)
 
+pub floor-cut : (x : Float) → T (fits binary64 x) → asWhole (floor ieee x) ≡ floorℤ x
+unfolding floor asWhole floorℤ negative
+floor-cut nan h = refl
+floor-cut (inf s) h = refl
+floor-cut (fin s m e) h =
+    let r = floor ieee (fin s m e) in
+    let z = floor-sized (fin s m e) h tt in
+    let size : num r / den r ≡ floorSize s (m * up e) (down e) = ap (λ n. n / den r) (z .size) ∙ mul-div-cancel _ (den-pos r) in
+    sym (whole-is r) ∙ λ i. signed (z .like .sign i) (size i)
+
 -- ---- what the size of a finite value leaves by 10.0: what the cut asks of it, and that it gives the last digit of the whole part
 
 abbrev 10·0 : Float
@@ -102,7 +111,8 @@ digit-at s m e h =
     let l = 2 ^ 1074 in
     let L : 0 < l = pow-pos 1074 in
     let v : Units binary64 r false (n % (10 * l)) = rem-exact binary64 false m e false 5 (pos 1) h tt (lit< tt) in
-    let d : n % (10 * l) / l ≡ m * up e / down e % 10 = cut-digit n l L ∙ ap (λ q. q % 10) (sym (div-same (m * up e) (down e) n l (down-pos e) L (count binary64 false m e h .1))) in
+    let same : m * up e / down e ≡ n / l = div-same (m * up e) (down e) n l (down-pos e) L (count binary64 false m e h .1) in
+    let d : n % (10 * l) / l ≡ m * up e / down e % 10 = cut-digit n l L ∙ ap (λ q. q % 10) (sym same) in
     let b : n % (10 * l) < 2 ^ 64 * l = lt-trans (mod-lt n (lit< tt)) (lit< tt) in
     record { asks = cut-asks r (n % (10 * l)) l L v b; is = cut-value 64 r (n % (10 * l)) l L v (div-lt-iff-lt-mul L .1 b) ∙ d }
 

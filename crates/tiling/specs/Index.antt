@@ -1,21 +1,16 @@
--- Document 01, "Triangles and calls": the triangle that a point belongs to, and whether it is reflected (projections/dodecahedron.rs). Definitions only.
-use Prim.Native.Nat.{ℕ, _-_, _*_, _/_, _%_}
-use mathlib.Core.Bool.{Bool, cond}
-use lib.IntN.{ℤ, pos, negsuc, negℤ, _+ℤ_}
-use lib.Ieee.{Float, nan, inf, fin, up, down, lt}
+-- Document 01, "Triangles and calls": the triangle that a point belongs to, and whether it is reflected (projections/dodecahedron.rs).
+-- Definitions only.
+use Prim.Native.Nat.{ℕ, _-_, _%_}
+use mathlib.Core.Bool.{Bool}
+use lib.IntN.{ℤ, pos, negsuc, _+ℤ_}
+use lib.Ieee.{lt}
 use Rattle.arithmetic.specs.Arith.{Arith}
-use Rattle.elementary.specs.Whole.{floor, round}
+use Rattle.elementary.specs.Whole.{floorℤ, round}
 use Rattle.coordinates.specs.CoordinateTransforms.{radians, toFace}
 use Rattle.coordinates.specs.declared.base.Radians.{Radians}
 use Rattle.coordinates.specs.declared.polar.Polar.{Polar}
 use Rattle.origin.specs.Constants.{PI-OVER-5, TWO-PI-OVER-5, DISTANCE-TO-EDGE}
 use Rattle.tiling.specs.Pentagon.{x}
-
--- the Rust's `as i32` on whole numbers, which have no bounds here: toward zero, and 0 for a NaN. An infinity, which is no whole number, gives 0 too.
-unfoldable pub asWhole : Float → ℤ
-asWhole nan = pos 0
-asWhole (inf s) = pos 0
-asWhole (fin s m e) = let k = m * up e / down e in cond s (negℤ (pos k)) (pos k)
 
 -- "mod 10, never negative"
 unfoldable pub modulo10 : ℤ → ℕ
@@ -27,10 +22,10 @@ module _ (A : Arith) where
 
   infixl 60 _⊖_
   infixl 70 _⊗_ _⊘_
-  -- "Triangle index is (floor(gamma/(π/5)) + 10) mod 10, never negative.": get_face_triangle_index
+  -- "Triangle index is (floor(gamma/(π/5)) + 10) mod 10, never negative.": get_face_triangle_index. 0 where gamma is not finite
   unfoldable pub triangleIndex : Radians → ℕ
   unfolding PI-OVER-5
-  triangleIndex gamma = modulo10 (asWhole (floor A (gamma .0 ⊘ PI-OVER-5)) +ℤ pos 10)
+  triangleIndex gamma = modulo10 (floorℤ (gamma .0 ⊘ PI-OVER-5) +ℤ pos 10)
 
   -- normalize_gamma
   unfoldable pub normalizeGamma : Radians → Radians

@@ -1,5 +1,5 @@
--- geometry/pentagon.rs: a shape and its winding. core/pentagon.rs: `compute`, as far as the triangle u, v, w depends on it; the vertices a, b, d, e and the pentagon are
--- the cells'. Definitions only.
+-- geometry/pentagon.rs: a shape and its winding. core/pentagon.rs: `compute`, as far as the triangle u, v, w depends on it; the
+-- vertices a, b, d, e and the pentagon are the cells'. Definitions only.
 use Prim.Native.Nat.{ℕ}
 use mathlib.Core.Bool.{Bool, true, false}
 use mathlib.Core.List.{List, [], _∷_, reverse}

@@ -7,6 +7,7 @@ ghost use mathlib.Core.Path.{_≡_};
 ghost use Rattle.arithmetic.specs.Arith.{ieee};
 ghost use Rattle.tiling.specs.FaceTriangles.{midpoint, getBaseFaceTriangle, scaleOf, beyond, getReflectedFaceTriangle, faceTriangle};
 
+// The point halfway between two.
 fn midpoint(p: Face, q: Face) -> Face
     ensures { λ r. ⌜ r ≡ midpoint ieee p q ⌝ }
 {
@@ -16,6 +17,8 @@ fn midpoint(p: Face, q: Face) -> Face
     })
 }
 
+// The base triangle with an index 0 to 9, half of a quintant: centre, edge midpoint and first corner for
+// an even index, centre, second corner and edge midpoint for an odd one.
 pub fn get_base_face_triangle(index: usize) -> FaceTriangle
     ensures { λ r. ⌜ r ≡ getBaseFaceTriangle ieee index ⌝ }
 {
@@ -42,6 +45,7 @@ pub fn get_base_face_triangle(index: usize) -> FaceTriangle
 // 1.0 + 1.0 / cos(INTERHEDRAL_ANGLE).
 const SQUASHED: f64 = 3.2360679774997894;
 
+// How far the reflected centre lies beyond the edge, as a multiple of the midpoint.
 fn scale_of(squashed: bool) -> f64
     ensures { λ r. ⌜ r ≡ scaleOf ieee squashed ⌝ }
 {
@@ -58,6 +62,7 @@ fn beyond(a: Face, midpoint: Face, scale: f64) -> Face
     })
 }
 
+// The base triangle with its centre reflected beyond the edge, squashed or not.
 pub fn get_reflected_face_triangle(index: usize, squashed: bool) -> FaceTriangle
     ensures { λ r. ⌜ r ≡ getReflectedFaceTriangle ieee index squashed ⌝ }
 {

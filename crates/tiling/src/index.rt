@@ -8,10 +8,10 @@ use remainder::remainder;
 use square_root::signs::abs;
 use square_root::signs::negative;
 ghost use mathlib.Core.Path.{_≡_};
-ghost use mathlib.Core.Bool.{cond};
-ghost use lib.IntN.{pos, negℤ};
 ghost use Rattle.arithmetic.specs.Arith.{ieee};
-ghost use Rattle.tiling.specs.Index.{asWhole, modulo10, triangleIndex, normalizeGamma, shouldReflect};
+ghost use Rattle.elementary.specs.Whole.{signed};
+ghost use Rattle.tiling.specs.Cut.{asWhole};
+ghost use Rattle.tiling.specs.Index.{modulo10, triangleIndex, normalizeGamma, shouldReflect};
 
 const PI_OVER_5: f64 = 3.141592653589793 / 5.0;
 
@@ -24,7 +24,7 @@ const LARGE: f64 = 4503599627370496.0;
 
 // The whole number k or -k, mod 10 and never negative.
 fn modulo(below: bool, k: u64) -> usize
-    ensures { λ r. ⌜ r ≡ modulo10 (cond below (negℤ (pos k)) (pos k)) ⌝ }
+    ensures { λ r. ⌜ r ≡ modulo10 (signed below k) ⌝ }
 {
     if below {
         ((10 - k % 10) % 10) as usize

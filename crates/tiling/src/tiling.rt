@@ -6,6 +6,7 @@ ghost use Prim.Native.Nat.{_<_};
 ghost use Rattle.arithmetic.specs.Arith.{ieee};
 ghost use Rattle.tiling.specs.Tiling.{getQuintantVertices};
 
+// The centre of the face and the two corners of one of its five quintants.
 pub struct QuintantVertices {
     pub center: Face,
     pub corner1: Face,

@@ -4,7 +4,7 @@ use mathlib.Core.Bool.{Bool}
 use mathlib.Core.List.{List}
 use Prim.Native.Nat.{ℕ, _<_}
 use lib.Ieee.{Float}
-use Rattle.answer.specs.Given.{Given, answered, refused, passed, andThen, bind}
+use Rattle.answer.specs.Given.{Given, answered, refused, passed, bind}
 use Rattle.answer.proofs.Given.{bind-answered}
 use Rattle.arithmetic.specs.Arith.{Arith}
 use Rattle.coordinates.specs.declared.coords.SphericalTriangle.{SphericalTriangle}
@@ -12,8 +12,9 @@ use Rattle.coordinates.specs.declared.polar.Polar.{Polar}
 use Rattle.origin.specs.Origins.{originAt}
 use Rattle.tiling.specs.Index.{triangleIndex, shouldReflect}
 use Rattle.tiling.proofs.Modulo.{index-below-10}
-use Rattle.set.specs.Checks.{checkBuffers, checkOrigin}
-use Rattle.stores.specs.Used.{sourceSlot, sphereSlot}
+use Rattle.set.specs.Set.{Set}
+use Rattle.set.specs.Checks.{checkCall}
+use Rattle.stores.specs.Slots.{sourceSlot, sphereSlot}
 use Rattle.stores.specs.declared.used.Used.{Used}
 use Rattle.triangles.specs.Triangles.{sphereTaken}
 use Rattle.triangles.specs.Taken.{faceFor, usedFor, takenFor}
@@ -21,31 +22,29 @@ use Rattle.triangles.specs.Taken.{faceFor, usedFor, takenFor}
 pub answered-same : {A : Type 0} {a b : A} → answered a ≡ answered b → a ≡ b
 answered-same {a = a} e = ap (λ (g : Given _). elim g [ answered x ↦ x | refused n ↦ a ]) e
 
-module _ (A : Arith) (table frame face sphere : List Float) (o : ℕ) (polar : Polar) where
-  abbrev checks : Given (Unit {0})
-  checks = andThen (checkBuffers frame face sphere) (checkOrigin o)
-
+module _ (A : Arith) (table : List Float) (s : Set) (o : ℕ) (polar : Polar) where
   abbrev used : Given Used
-  used = usedFor A table frame face sphere o polar
+  used = usedFor A table s o polar
 
   -- ---- forwards
 
-  pub set-refused : (n : ℕ) → checks ≡ refused n → takenFor A table frame face sphere o polar ≡ refused n
+  pub set-refused : (n : ℕ) → checkCall s o ≡ refused n → takenFor A table s o polar ≡ refused n
   unfolding takenFor
   set-refused n e = rw e
 
-  pub taken-refused : (n : ℕ) → checks ≡ passed → used ≡ refused n → takenFor A table frame face sphere o polar ≡ refused n
+  pub taken-refused : (n : ℕ) → checkCall s o ≡ passed → used ≡ refused n → takenFor A table s o polar ≡ refused n
   unfolding takenFor
   taken-refused n p e = rw (p, e)
 
-  pub taken-answered : (u : Used) → checks ≡ passed → used ≡ answered u → takenFor A table frame face sphere o polar ≡ answered (record { used = u; face = faceFor A face u })
+  pub taken-answered : (u : Used) → checkCall s o ≡ passed → used ≡ answered u
+      → takenFor A table s o polar ≡ answered (record { used = u; «face_triangle» = faceFor A s u })
   unfolding takenFor
   taken-answered u p e = rw (p, e)
 
   module _ (i : ℕ) (r : Bool) (ei : i ≡ triangleIndex A (polar .gamma)) (er : r ≡ shouldReflect A polar) where
     -- the sphere triangle that is taken
     abbrev triangle : Given SphericalTriangle
-    triangle = sphereTaken A frame face sphere (originAt table o) (sphereSlot o i r) (sourceSlot i r)
+    triangle = sphereTaken A s (originAt table o) (sphereSlot o i r) (sourceSlot i r)
 
     abbrev then : SphericalTriangle → Given Used
     then t = answered (record { origin = o; index = i; reflected = r; triangle = t })
@@ -54,7 +53,7 @@ module _ (A : Arith) (table frame face sphere : List Float) (o : ℕ) (polar : P
     unfolding usedFor
     used-is =
         λ k.
-        bind (sphereTaken A frame face sphere (originAt table o) (sphereSlot o (sym ei k) (sym er k)) (sourceSlot (sym ei k) (sym er k))) λ t.
+        bind (sphereTaken A s (originAt table o) (sphereSlot o (sym ei k) (sym er k)) (sourceSlot (sym ei k) (sym er k))) λ t.
         answered (record { origin = o; index = sym ei k; reflected = sym er k; triangle = t })
 
     pub used-refused : (n : ℕ) → triangle ≡ refused n → used ≡ refused n
@@ -66,7 +65,7 @@ module _ (A : Arith) (table frame face sphere : List Float) (o : ℕ) (polar : P
   -- ---- backwards
 
   -- on a set that passes the checks, what is taken is what is used with its face triangle
-  pub taken-is : checks ≡ passed → takenFor A table frame face sphere o polar ≡ bind used λ u. answered (record { used = u; face = faceFor A face u })
+  pub taken-is : checkCall s o ≡ passed → takenFor A table s o polar ≡ bind used λ u. answered (record { used = u; «face_triangle» = faceFor A s u })
   unfolding takenFor
   taken-is p = rw p
 
@@ -75,5 +74,5 @@ module _ (A : Arith) (table frame face sphere : List Float) (o : ℕ) (polar : P
   used-within u h e =
       let i = triangleIndex A (polar .gamma) in
       let r = shouldReflect A polar in
-      let b = bind-answered (sphereTaken A frame face sphere (originAt table o) (sphereSlot o i r) (sourceSlot i r)) _ u e in
+      let b = bind-answered (sphereTaken A s (originAt table o) (sphereSlot o i r) (sourceSlot i r)) _ u e in
       subst (λ (v : Used). (v .origin < 12) × (v .index < 10)) (answered-same (b .2)) (h, index-below-10 A (polar .gamma))

@@ -9,34 +9,41 @@ use Rattle.coordinates.specs.declared.coords.FaceTriangle.{FaceTriangle}
 use Rattle.coordinates.specs.declared.polar.Polar.{Polar}
 use Rattle.origin.specs.Origins.{originAt}
 use Rattle.tiling.specs.Index.{triangleIndex, shouldReflect}
-use Rattle.set.specs.Checks.{checkBuffers, checkOrigin}
-use Rattle.stores.specs.Used.{faceSlot, sourceSlot, sphereSlot}
+use Rattle.set.specs.Set.{Set}
+use Rattle.set.specs.Checks.{checkCall}
+use Rattle.stores.specs.Slots.{faceSlot, sourceSlot, sphereSlot}
 use Rattle.stores.specs.declared.used.Used.{Used}
 use Rattle.triangles.specs.Triangles.{faceTaken, sphereTaken}
 use Rattle.triangles.specs.declared.taken.Taken.{Taken}
 use Rattle.triangles.specs.declared.taken.TakenAnswer.{TakenAnswer}
-use Rattle.triangles.specs.declared.taken.TakenAnswer.the-variants as answer
+use Rattle.triangles.specs.declared.taken.TakenAnswer.the-variants as taken-answer
+use Rattle.triangles.specs.declared.taken.UsedAnswer.{UsedAnswer}
+use Rattle.triangles.specs.declared.taken.UsedAnswer.the-variants as used-answer
+
+abbrev pub givenUsed : UsedAnswer → Given Used
+givenUsed (used-answer.Answered u) = answered u
+givenUsed (used-answer.Refused n) = refused (numberOf n)
 
 abbrev pub givenTaken : TakenAnswer → Given Taken
-givenTaken (answer.Answered t) = answered t
-givenTaken (answer.Refused n) = refused (numberOf n)
+givenTaken (taken-answer.Answered t) = answered t
+givenTaken (taken-answer.Refused n) = refused (numberOf n)
 
 -- the face triangle of the point
-unfoldable pub faceFor : Arith → List Float → Used → FaceTriangle
-faceFor A face u = faceTaken A face (faceSlot (u .index) (u .reflected))
+unfoldable pub faceFor : Arith → Set → Used → FaceTriangle
+faceFor A s u = faceTaken A (s .faces) (faceSlot (u .index) (u .reflected))
 
-module _ (A : Arith) (table frame face sphere : List Float) where
+module _ (A : Arith) (table : List Float) (s : Set) where
   -- the sphere triangle taken for a polar point, with the slots used; 8 where a vertex has no row
   unfoldable pub usedFor : ℕ → Polar → Given Used
   usedFor o polar =
       let i = triangleIndex A (polar .gamma) in
       let r = shouldReflect A polar in
-      bind (sphereTaken A frame face sphere (originAt table o) (sphereSlot o i r) (sourceSlot i r)) λ t.
+      bind (sphereTaken A s (originAt table o) (sphereSlot o i r) (sourceSlot i r)) λ t.
       answered (record { origin = o; index = i; reflected = r; triangle = t })
 
   -- both triangles of a polar point, on any buffers and for any id: 1 to 4, and then 8
   unfoldable pub takenFor : ℕ → Polar → Given Taken
   takenFor o polar =
-      andThen (andThen (checkBuffers frame face sphere) (checkOrigin o))
+      andThen (checkCall s o)
       (bind (usedFor o polar) λ u.
-      answered (record { used = u; face = faceFor A face u }))
+      answered (record { used = u; «face_triangle» = faceFor A s u }))

@@ -17,6 +17,7 @@ use Rattle.origin.specs.declared.utils.Origin.{Origin}
 use Rattle.tiling.specs.FaceTriangles.{faceTriangle}
 use Rattle.crs.specs.Frame.{findVertex}
 use Rattle.set.specs.Sizes.{FACE-WIDTH, SPHERE-WIDTH}
+use Rattle.set.specs.Set.{Set}
 use Rattle.stores.specs.Slots.{run, filled, faceIn, sphereIn}
 use Rattle.triangles.specs.declared.triangles.TriangleAnswer.{TriangleAnswer}
 use Rattle.triangles.specs.declared.triangles.TriangleAnswer.the-variants as triangle
@@ -49,8 +50,8 @@ module _ (A : Arith) where
       answered (record { a = a; b = b; c = c })
 
   -- the sphere triangle of slot k, which is built on the face triangle of slot j if it is empty
-  unfoldable pub sphereTaken : List Float → List Float → List Float → Origin → ℕ → ℕ → Given SphericalTriangle
-  sphereTaken frame face sphere o k j =
-      cond (filled sphere (k * SPHERE-WIDTH))
-      (answered (sphereIn (run sphere (k * SPHERE-WIDTH + 1) 9)))
-      (sphereBuilt frame o (faceTaken face j))
+  unfoldable pub sphereTaken : Set → Origin → ℕ → ℕ → Given SphericalTriangle
+  sphereTaken s o k j =
+      cond (filled (s .spheres) (k * SPHERE-WIDTH))
+      (answered (sphereIn (run (s .spheres) (k * SPHERE-WIDTH + 1) 9)))
+      (sphereBuilt (s .frame) o (faceTaken (s .faces) j))

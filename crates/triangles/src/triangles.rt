@@ -25,28 +25,15 @@ ghost use Rattle.arithmetic.specs.Arith.{ieee};
 ghost use Rattle.elementary.specs.Sine.{beyond};
 ghost use Rattle.coordinates.specs.Constants.{8·0};
 ghost use Rattle.crs.specs.Frame.{givenVertex};
+ghost use Rattle.set.specs.Outcome.{lent};
 ghost use Rattle.set.specs.Sizes.{FACE-SLOTS, FACE-STORE, SPHERE-SLOTS, SPHERE-STORE};
 ghost use Rattle.stores.specs.Slots.{faceIn, sphereIn};
-ghost use Rattle.stores.specs.Used.{faceSlot, sourceSlot};
 ghost use Rattle.triangles.specs.Triangles.{faceTaken, cornerVertex, sphereBuilt, sphereTaken, givenTriangle};
 
+// A sphere triangle, or 8.
 pub enum TriangleAnswer {
     Answered(SphericalTriangle),
     Refused(Refusal),
-}
-
-pub(crate) fn face_slot(index: usize, reflected: bool) -> usize
-    requires { ⌜ index < 10 ⌝ }
-    ensures { λ r. ⌜ (r ≡ faceSlot index reflected) × (r < FACE-SLOTS) ⌝ }
-{
-    if reflected { index + 10 } else { index }
-}
-
-pub(crate) fn source_slot(index: usize, reflected: bool) -> usize
-    requires { ⌜ index < 10 ⌝ }
-    ensures { λ r. ⌜ (r ≡ sourceSlot index reflected) × (r < FACE-SLOTS) ⌝ }
-{
-    if reflected { index + 20 } else { index }
 }
 
 // The triangle of a run of coordinates, as it stands.
@@ -93,6 +80,7 @@ fn read_sphere(run: &[f64]) -> SphericalTriangle
     }
 }
 
+// The face triangle of a slot, as it stands or as it is defined.
 pub(crate) fn take_face(store: &[f64], slot: usize) -> FaceTriangle
     requires { ⌜ (slot < FACE-SLOTS) × (length (now store) ≡ FACE-STORE) ⌝ }
     ensures { λ r. ⌜ r ≡ faceTaken ieee (now (store .entry)) slot ⌝ }
@@ -105,7 +93,8 @@ pub(crate) fn take_face(store: &[f64], slot: usize) -> FaceTriangle
     }
 }
 
-// A corner of a face triangle, turned to the origin and looked up in the frame.
+// A corner of a face triangle, turned to the origin and looked up in the frame: unprojected to the
+// sphere with the origin's own angle on top, and rotated out of the origin's space.
 fn corner_vertex(frame: &[f64], origin: Origin, corner: Face) -> VertexAnswer
     requires { ⌜ beyond 8·0 (origin .angle .0) ≡ false ⌝ }
     ensures { λ r. ⌜ givenVertex r ≡ cornerVertex ieee (now (frame .entry)) origin corner ⌝ }
@@ -120,6 +109,7 @@ fn corner_vertex(frame: &[f64], origin: Origin, corner: Face) -> VertexAnswer
     crs::frame::get_vertex(frame, transform_quat(rotated, quat))
 }
 
+// compute_spherical_triangle: the three corners looked up; 8 where one has no row.
 fn build_sphere(frame: &[f64], origin: Origin, t: FaceTriangle) -> TriangleAnswer
     requires { ⌜ beyond 8·0 (origin .angle .0) ≡ false ⌝ }
     ensures { λ r. ⌜ givenTriangle r ≡ sphereBuilt ieee (now (frame .entry)) origin t ⌝ }
@@ -150,7 +140,7 @@ pub(crate) fn take_sphere(
     requires { ⌜ (slot < SPHERE-SLOTS) × (length (now «sphere_store») ≡ SPHERE-STORE) ⌝ }
     requires { ⌜ (source < FACE-SLOTS) × (length (now «face_store») ≡ FACE-STORE) ⌝ }
     requires { ⌜ beyond 8·0 (origin .angle .0) ≡ false ⌝ }
-    ensures { λ r. ⌜ givenTriangle r ≡ sphereTaken ieee (now (frame .entry)) (now («face_store» .entry)) (now («sphere_store» .entry)) origin slot source ⌝ }
+    ensures { λ r. ⌜ givenTriangle r ≡ sphereTaken ieee (lent frame «face_store» «sphere_store» .entry) origin slot source ⌝ }
 {
     let at = slot * SPHERE_WIDTH;
     if is_filled(sphere_store, at) {

@@ -1,13 +1,10 @@
 -- Document 02, Paper 12, "Fair turns for sixteen channels": how a turn's calls are handed out. Wishes and grants are lists in channel order. Definitions only.
 use Prim.Native.Nat.{ℕ, zero, suc, _+_, _-_, min}
 use mathlib.Core.Bool.{cond, not}
-use mathlib.Core.List.{List, [], _∷_, map}
+use mathlib.Core.List.{List, [], _∷_, map, foldr}
 use lib.Dec.{eqb, ltb}
 use lib.ListN.{length}
 use Rattle.answer.specs.Given.{Given, answered, refused, passed, refuseIf}
-use Rattle.answer.specs.Answer.{numberOf}
-use Rattle.turns.specs.declared.TurnsAnswer.{TurnsAnswer}
-use Rattle.turns.specs.declared.TurnsAnswer.the-variants as answer
 
 -- "A turn has 256 place calls to hand out."
 abbrev pub CALLS : ℕ
@@ -23,8 +20,7 @@ SHARE = 16
 
 -- the total of wishes, or of grants
 abbrev pub sum : List ℕ → ℕ
-sum [] = 0
-sum (x ∷ xs) = x + sum xs
+sum numbers = foldr _+_ 0 numbers
 
 -- the smaller of its wish and a number, for each channel
 abbrev pub capped : ℕ → List ℕ → List ℕ
@@ -65,10 +61,6 @@ unfoldable pub fairTurns : List ℕ → List ℕ
 fairTurns wishes = rounds CALLS wishes (firstShares wishes)
 
 -- ---- the call
-
-abbrev pub givenTurns : TurnsAnswer → Given (Unit {0})
-givenTurns answer.Granted = passed
-givenTurns (answer.Refused n) = refused (numberOf n)
 
 -- "Refusal 24: not exactly 16 wishes, tried first .. Refusal 25: not exactly 16 grant places, tried next."
 unfoldable pub turnsGiven : List ℕ → List ℕ → Given (Unit {0})

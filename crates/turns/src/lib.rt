@@ -1,9 +1,11 @@
 // Fair turns: a turn's place calls handed out to sixteen channels by what each wishes for.
+use answer::Check;
 use answer::Refusal;
 ghost use mathlib.Core.Path.{_≡_};
 ghost use Prim.Native.Nat.{_≤_, min};
 ghost use lib.ListN.{length};
-ghost use Rattle.turns.specs.Turns.{CALLS, CHANNELS, sum, capped, stillShort, round, givenTurns, turnsGiven, grantsAfter};
+ghost use Rattle.answer.specs.Answer.{givenCheck};
+ghost use Rattle.turns.specs.Turns.{CALLS, CHANNELS, sum, capped, stillShort, round, turnsGiven, grantsAfter};
 ghost use Rattle.turns.specs.Levels.{shortOf, LastLevel};
 
 // The channels of a turn.
@@ -15,11 +17,7 @@ pub const CALLS: u16 = 256;
 // What a channel gets first, if it wishes for so many.
 pub const SHARE: u16 = 16;
 
-pub enum TurnsAnswer {
-    Granted,
-    Refused(Refusal),
-}
-
+// The lesser of two numbers.
 fn smaller(a: u16, b: u16) -> u16
     ensures { λ r. ⌜ r ≡ min a b ⌝ }
 {
@@ -97,18 +95,19 @@ fn last_round(wishes: &[u16], level: u16, calls: u16, grants: &mut [u16])
 // Hands out a turn's calls: first the smaller of its wish and 16 to each channel, then what remains
 // singly in channel order, round after round, to those still short. Refuses with 24 unless there are
 // 16 wishes, and then with 25 unless there are 16 grants; the grants are then as they were.
-pub fn fair_turns(wishes: &[u16], grants: &mut [u16]) -> TurnsAnswer
-    ensures { λ r. ⌜ givenTurns r ≡ turnsGiven (now (wishes .entry)) (now (grants .entry)) ⌝ }
-    ensures { λ _. ⌜ now (grants .exit) ≡ grantsAfter (turnsGiven (now (wishes .entry)) (now (grants .entry))) (now (wishes .entry)) (now (grants .entry)) ⌝ }
+pub fn fair_turns(wishes: &[u16], grants: &mut [u16]) -> Check
+    ensures answer { λ r. ⌜ givenCheck r ≡ turnsGiven (now (wishes .entry)) (now (grants .entry)) ⌝ }
+    ensures grants { λ _. ⌜ now (grants .exit)
+        ≡ grantsAfter (turnsGiven (now (wishes .entry)) (now (grants .entry))) (now (wishes .entry)) (now (grants .entry)) ⌝ }
 {
     if wishes.len() != CHANNELS {
-        return TurnsAnswer::Refused(Refusal::WishCount);
+        return Check::Refused(Refusal::WishCount);
     }
     if grants.len() != CHANNELS {
-        return TurnsAnswer::Refused(Refusal::GrantCount);
+        return Check::Refused(Refusal::GrantCount);
     }
     let level = last_level(wishes);
     let left = CALLS - handed_out(wishes, level);
     last_round(wishes, level, left, grants);
-    TurnsAnswer::Granted
+    Check::Passed
 }

@@ -58,15 +58,17 @@ module _ (ss : List Strike) (s : Strike) (named : s .origin ≤ 11) (later : las
 
 -- ---- strikes of one minute
 in-order : (l m : ℕ) (ss : List Strike) → l ≤ m → InMinute m ss → Ordered l ss
+unfolding InMinute
 in-order l m [] h c = tt
 in-order l m (s ∷ ss) h c = (omega (arith, c .0), omega (arith, c .1), in-order (s .minute) m ss (omega (arith, c .0)) (c .2))
 
 last-in : (l m : ℕ) (ss : List Strike) → l ≤ m → InMinute m ss → lastFrom l ss ≤ m
-unfolding lastFrom
+unfolding lastFrom InMinute
 last-in l m [] h c = h
 last-in l m (s ∷ ss) h c = last-in (s .minute) m ss (omega (arith, c .0)) (c .2)
 
 in-minute-more : (m : ℕ) (acc : List Strike) (s : Strike) → InMinute m acc → s .minute ≡ m → s .origin ≤ 11 → InMinute m (acc ++ (s ∷ []))
+unfolding InMinute
 in-minute-more m [] s c e o = (e, o, tt)
 in-minute-more m (r ∷ acc) s c e o = (c .0, c .1, in-minute-more m acc s (c .2) e o)
 
@@ -75,7 +77,7 @@ all-within m acc c = within-all m m acc (in-order m m acc (omega arith) c) (omeg
 
 -- all are accepted as long as there is room
 all-accepted : (m : ℕ) (acc ss : List Strike) → InMinute m acc → InMinute m ss → length acc + length ss ≤ MOST → acceptedAfter acc ss ≡ acc ++ ss
-unfolding acceptedAfter
+unfolding acceptedAfter InMinute
 all-accepted m acc [] c d few = sym (append-nil acc)
 all-accepted m acc (s ∷ ss) c d few =
     let many : length (within (s .minute) acc) ≡ length acc = ap (λ (i : ℕ). length (within i acc)) (d .0) ∙ ap length (all-within m acc c) in
@@ -87,6 +89,7 @@ all-accepted m acc (s ∷ ss) c d few =
 -- 4,096 strikes of one minute
 module _ (m : ℕ) (ss : List Strike) (one : InMinute m ss) (many : length ss ≡ MOST) where
   accepts-all : accepted ss ≡ ss
+  unfolding InMinute
   accepts-all = all-accepted m [] ss tt one (omega (arith, many))
 
   last-is : lastMinute (accepted ss) ≤ m

@@ -60,7 +60,6 @@ upto-next c cs a zero = refl
 upto-next c cs a (suc n) = ap (λ (x : ℕ). getD cs a 0 + x) (upto-next c cs (suc a) n)
 
 sum-upto : (cs : List ℕ) → sum cs ≡ upto (λ i. getD cs i 0) 0 (length cs)
-unfolding sum
 sum-upto [] = refl
 sum-upto (c ∷ cs) = ap (λ (x : ℕ). c + x) (sum-upto cs ∙ sym (upto-next c cs 0 (length cs)))
 

@@ -1,5 +1,5 @@
 -- What the proofs of this crate share, and the theorem over every list of additions.
-pub mod Turns
+pub mod Loops
 pub mod Ways
 pub mod Parts
 pub mod Recent

@@ -14,7 +14,7 @@ use lib.ListN.{set}
 use Rattle.answer.specs.Given.{Given, refused, passed, refuseIf}
 use Rattle.answer.specs.Answer.{numberOf}
 use Rattle.answer.specs.declared.Refusal.{Refusal}
-use Rattle.window.specs.declared.AddAnswer.the-variants as answer
+use Rattle.answer.specs.declared.Check.the-variants as check
 use Rattle.window.specs.declared.Step.{Step}
 use Rattle.window.specs.declared.Window.{Window}
 use Rattle.window.specs.Window.{MOST, windowOf, stateOf}
@@ -54,13 +54,13 @@ module _ (w : Window) (m o : ℕ) where
     has-room k = gets-none (le-ltb 11 o h) (le-ltb m (w .state .last) l) (lt-leb MOST (remaining w m) k)
 
   -- a step that is refused with r leaves the arrays and the state
-  pub leaves : (s : Step) (r : Refusal) → s ≡ record { answer = answer.Refused r; state = w .state } → addGiven w m o ≡ refused (numberOf r)
+  pub leaves : (s : Step) (r : Refusal) → s ≡ record { answer = check.Refused r; state = w .state } → addGiven w m o ≡ refused (numberOf r)
       → AddedTo w m o (s .answer) (windowOf (w .minutes) (w .origins) (w .counts) (s .state))
   leaves s r es e =
       subst (λ (t : Step). AddedTo w m o (t .answer) (windowOf (w .minutes) (w .origins) (w .counts) (t .state))) (sym es)
       record { answer = sym e; window = sym (ap (λ (g : Given (Unit {0})). windowAfter g w m o) e) }
 
-  pub adds : (v : Window) → v ≡ withStrike w m o → addGiven w m o ≡ passed → AddedTo w m o answer.Added v
+  pub adds : (v : Window) → v ≡ withStrike w m o → addGiven w m o ≡ passed → AddedTo w m o check.Passed v
   adds v ev e = record { answer = sym e; window = rw e ev }
 
 pub counts-remaining : (w : Window) (m n k : ℕ) → n ≡ min (w .state .kept) MOST → k ≡ remain (w .minutes) m n (w .state .first % MOST) → k ≡ remaining w m

@@ -1,5 +1,5 @@
--- Paper 5: what an addition gives and what it leaves, whatever the window holds. On a window that only additions wrote, this is what `Kept` says of the list of
--- accepted additions (`EveryList`). Definitions only.
+-- Paper 5: what an addition gives and what it leaves, whatever the window holds. On a window that only additions wrote, this is what
+-- `Kept` says of the list of accepted additions (`EveryList`). Definitions only.
 use Prim.Native.Nat.{ℕ, zero, suc, _+_, _-_, _%_, _^_, min}
 use mathlib.Core.Path.{_≡_}
 use mathlib.Core.Bool.{cond}
@@ -7,15 +7,10 @@ use mathlib.Core.List.{List}
 use lib.Dec.{leb, ltb}
 use lib.ListN.{getD, set}
 use Rattle.answer.specs.Given.{Given, answered, refused, passed, refuseIf}
-use Rattle.answer.specs.Answer.{numberOf}
+use Rattle.answer.specs.Answer.{givenCheck}
+use Rattle.answer.specs.declared.Check.{Check}
 use Rattle.window.specs.declared.Window.{Window}
-use Rattle.window.specs.declared.AddAnswer.{AddAnswer}
-use Rattle.window.specs.declared.AddAnswer.the-variants as answer
 use Rattle.window.specs.Window.{MOST, SPAN, windowOf, stateOf}
-
-abbrev pub givenAdd : AddAnswer → Given (Unit {0})
-givenAdd answer.Added = passed
-givenAdd (answer.Refused n) = refused (numberOf n)
 
 -- one less, and one more, for origin k: a count stays at 0, and starts again after 2³² − 1. An origin above 11 has no count
 unfoldable pub lower : List ℕ → ℕ → List ℕ
@@ -73,6 +68,6 @@ windowAfter (refused n) w m o = w
 windowAfter (answered u) w m o = withStrike w m o
 
 -- an addition to the window w answers a, and leaves v
-pub record AddedTo (w : Window) (m o : ℕ) (a : AddAnswer) (v : Window) : Type 0 where
-  pub answer : givenAdd a ≡ addGiven w m o
+pub record AddedTo (w : Window) (m o : ℕ) (a : Check) (v : Window) : Type 0 where
+  pub answer : givenCheck a ≡ addGiven w m o
   pub window : v ≡ windowAfter (addGiven w m o) w m o

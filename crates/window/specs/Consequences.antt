@@ -5,6 +5,6 @@ use mathlib.Core.List.{List, [], _∷_}
 use Rattle.window.specs.Kept.{Strike}
 
 -- every strike of a list is in minute m, and has an origin
-abbrev pub InMinute : ℕ → List Strike → Type 0
+unfoldable pub InMinute : ℕ → List Strike → Type 0
 InMinute m [] = Unit {0}
 InMinute m (s ∷ ss) = (s .minute ≡ m) × (s .origin ≤ 11) × InMinute m ss

@@ -1,7 +1,7 @@
 -- Paper 5, as one claim about every list of additions to a window that starts empty. Definitions only; `proofs/Theorem` proves it.
 use Prim.Native.Nat.{ℕ, zero, suc, _+_, _<_, _≤_}
 use mathlib.Core.Path.{_≡_}
-use mathlib.Core.List.{List, [], _∷_}
+use mathlib.Core.List.{List, [], _∷_, foldr}
 use lib.ListN.{length, getD}
 use Rattle.window.specs.declared.Window.{Window}
 use Rattle.window.specs.Window.{MOST, emptyWindow}
@@ -18,9 +18,8 @@ abbrev pub strikesOf : Window → List Strike
 strikesOf w = ring (w .minutes) (w .origins) (w .state .first) (w .state .kept)
 
 -- the sum of some numbers
-unfoldable pub sum : List ℕ → ℕ
-sum [] = 0
-sum (n ∷ ns) = n + sum ns
+abbrev pub sum : List ℕ → ℕ
+sum ns = foldr _+_ 0 ns
 
 -- the window after one addition
 abbrev pub addOn : Window → Strike → Window

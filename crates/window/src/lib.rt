@@ -1,6 +1,7 @@
 // Paper 5: a window of strikes. It keeps those whose minute is less than 180 behind that of the last one accepted, at most
 // 4,096, in a ring, and counts them by origin. `add` is lent the window and copies none of its arrays; `add_to_parts` does
 // the work, on the arrays and a small state. No function has a `requires`: whatever a window holds, an addition ends.
+use answer::Check;
 use answer::Refusal;
 ghost use mathlib.Core.Path.{_≡_};
 ghost use Prim.Native.Nat.{_-_, _%_, min};
@@ -26,15 +27,9 @@ pub struct Window {
     pub state: State,
 }
 
-// How an addition ends.
-pub enum AddAnswer {
-    Added,
-    Refused(Refusal),
-}
-
 // The answer of an addition, and the state after it.
 pub struct Step {
-    pub answer: AddAnswer,
+    pub answer: Check,
     pub state: State,
 }
 
@@ -124,10 +119,10 @@ fn lower_counts(origins: &[u8; 4096], counts: &mut [u32; 12], n: u32, from: u32)
 
 // A refused addition leaves the state as it was.
 fn refused(n: Refusal, state: State) -> Step
-    ensures { λ r. ⌜ r ≡ record { answer = AddAnswer.Refused n; state = state } ⌝ }
+    ensures { λ r. ⌜ r ≡ record { answer = Check.Refused n; state = state } ⌝ }
 {
     Step {
-        answer: AddAnswer::Refused(n),
+        answer: Check::Refused(n),
         state: state,
     }
 }
@@ -164,7 +159,7 @@ pub fn add_to_parts(
     minutes[at] = minute;
     origins[at] = origin;
     Step {
-        answer: AddAnswer::Added,
+        answer: Check::Passed,
         state: State {
             first: oldest as u32,
             kept: k + 1,
@@ -175,7 +170,7 @@ pub fn add_to_parts(
 
 // One addition to the window that is lent: strikes 180 minutes or more behind it are dropped, and it is kept; or it is
 // refused with 4, 17 or 18, and the window is as it was.
-pub fn add(window: &mut Window, minute: u32, origin: u8) -> AddAnswer
+pub fn add(window: &mut Window, minute: u32, origin: u8) -> Check
     ensures { λ r. ⌜ AddedTo (now (window .entry)) minute origin r (now (window .exit)) ⌝ }
 {
     let s = add_to_parts(

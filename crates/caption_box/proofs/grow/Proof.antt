@@ -21,6 +21,7 @@ returns : tie.Need-returns
 returns c = of-empty (c .before .args .caption) (c .before .args .point) (c .if1 .taken)
 
 returns-2 : tie.Need-returns-2
+unfolding laterPoint
 returns-2 c =
     let with-least-y = c .before in
     let with-greatest-x = with-least-y .before in

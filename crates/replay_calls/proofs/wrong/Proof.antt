@@ -6,7 +6,9 @@ use Rattle.replay_calls.proofs.wrong.Tie as tie
 
 returns-3 : tie.Need-returns-3
 returns-3 c =
-    (λ e. c .before .before .before .before .unlike .ensures (omega arith), (λ e. c .before .before .unlike2 .ensures (omega arith), λ e. c .unlike3 .ensures e))
+    let faces = c .before .before in
+    let frame = faces .before .before in
+    (λ e. frame .unlike .ensures (omega arith), (λ e. faces .unlike2 .ensures (omega arith), λ e. c .unlike3 .ensures e))
 
 pub wrong-spec : {M : Type 1} → statement M
 wrong-spec =

@@ -1,4 +1,4 @@
--- `replay_sheet::counts_of` is safe and ends. Assumes nothing.
+-- `replay_sheet::counts_of` is safe and ends. The loop's invariant: at most twelve counts were read; its measure: how many are left. Assumes nothing.
 use Prim.Native.Nat.{_-_, _≤_}
 use native.Mathlib.Omega.{arith}
 use borrow.Author.Needs.{needs}

@@ -1,4 +1,4 @@
--- `replay_sheet::is_same` is safe and ends. Assumes nothing.
+-- `replay_sheet::is_same` is safe and ends. The loop's invariant: the place is at most the room's end; its measure: how many bytes are left. Assumes nothing.
 use Prim.Native.Nat.{_-_, _≤_}
 use native.Mathlib.Omega.{arith}
 use borrow.Author.Needs.{needs}

@@ -6,7 +6,15 @@ use Rattle.replay_strike.proofs.step.Statement.{statement}
 use Rattle.replay_strike.proofs.step.Tie as tie
 
 add-t21 : tie.Need-add-t21
-add-t21 c = omega (arith, simp (length-take, length-drop) at (c .before .before .before .before .before .before .before .before .feed .ensures .1 .1), c .before .before .before .before .before .before .before .before .before .before .before .before .before .before .before .before .before .before .good)
+add-t21 c =
+    let at-lines = c .before .before .before in
+    let at-sphere = at-lines .before .before in
+    let at-feed = at-sphere .before .before .before in
+    let at-feed-arg4 = at-feed .before in
+    let at-feed-arg = at-feed-arg4 .before .before .before in
+    let at-slice-known2 = at-feed-arg .before .before .before in
+    let entry = at-slice-known2 .before .before .before in
+    omega (arith, simp (length-take, length-drop) at (at-feed .feed .ensures .1 .1), entry .good)
 
 pub step-spec : {M : Type 1} → statement M
 step-spec =

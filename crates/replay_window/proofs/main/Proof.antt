@@ -6,10 +6,10 @@ use Rattle.replay_window.proofs.main.Statement.{statement}
 use Rattle.replay_window.proofs.main.Tie as tie
 
 abbrev Inv-loop : tie.InvT-loop
-Inv-loop minutes₀ origins₀ counts₀ compared₀ differ₀ turn₀ left₀ t9 minutes origins counts compared differ turn left = Unit {0}
+Inv-loop minutes₀ origins₀ counts₀ compared₀ differ₀ progress₀ left₀ t9 minutes origins counts compared differ progress left = Unit {0}
 
 abbrev μ-loop : tie.MeasureT-loop
-μ-loop minutes₀ origins₀ counts₀ compared₀ differ₀ turn₀ left₀ t9 minutes origins counts compared differ turn left = left
+μ-loop minutes₀ origins₀ counts₀ compared₀ differ₀ progress₀ left₀ t9 minutes origins counts compared differ progress left = left
 
 pub main-spec : {M : Type 1} → statement M
 main-spec =

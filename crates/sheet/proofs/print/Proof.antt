@@ -8,7 +8,7 @@ use lib.ListN.{length}
 use Rattle.answer.specs.Given.{Given, refused, passed}
 use Rattle.sheet.specs.Page.{pageOf}
 use Rattle.sheet.specs.Sheet.{PAGE, sheetGiven, pageAfter, SheetOf}
-use Rattle.sheet.specs.declared.SheetAnswer.the-variants as answer
+use Rattle.answer.specs.declared.Check.the-variants as check
 use Rattle.answer.specs.declared.Refusal.the-variants as refusal
 use Rattle.sheet.proofs.print.Statement.{statement}
 use Rattle.sheet.proofs.print.Tie as tie
@@ -22,12 +22,12 @@ module _ (counts page : List ℕ) where
   unfolding sheetGiven
   right h = rw (eq-eqb (length page) PAGE h)
 
-  refuses : (length page ≡ PAGE → ⊥) → SheetOf counts page (answer.Refused refusal.PageLength) page
+  refuses : (length page ≡ PAGE → ⊥) → SheetOf counts page (check.Refused refusal.PageLength) page
   refuses h =
       let given = wrong h in
       record { answer = sym given; page = sym (ap (λ (g : Given (Unit {0})). pageAfter g counts page) given) }
 
-  prints : length page ≡ PAGE → (q : List ℕ) → q ≡ pageOf counts → SheetOf counts page answer.Printed q
+  prints : length page ≡ PAGE → (q : List ℕ) → q ≡ pageOf counts → SheetOf counts page check.Passed q
   prints h q e =
       let given = right h in
       record { answer = sym given; page = e ∙ sym (ap (λ (g : Given (Unit {0})). pageAfter g counts page) given) }

@@ -1,5 +1,6 @@
 -- `sheet::sheet` meets its contract: a walk of its MIR, by hand, since the borrow checker covers no reference to a struct.
--- The shared borrow of the window is looked into, its counts are copied, and it is shut; the page is given on to `print` for good. Of `print` only the contract is known. Assumes nothing.
+-- The shared borrow of the window is looked into, its counts are copied, and it is shut; the page is given on to `print` for good. Of
+-- `print` only the contract is known. Assumes nothing.
 use mathlib.Core.Path.{_≡_, refl}
 use Prim.Native.Nat.{ℕ}
 use mathlib.Core.List.{[], _∷_, List}
@@ -48,9 +49,9 @@ use Rattle.window.proofs.Window as T
 use Rattle.window.proofs.Window.Laws as T′
 use Rattle.window.proofs.Parts.{Words, wordsVal, WindowIs, counts-are}
 use Rattle.sheet.specs.Sheet.{SheetOf}
-use Rattle.sheet.specs.declared.SheetAnswer.{SheetAnswer}
-use Rattle.sheet.proofs.SheetAnswer as E
-use Rattle.sheet.proofs.SheetAnswer.Laws as E′
+use Rattle.answer.specs.declared.Check.{Check}
+use Rattle.answer.proofs.Check as E
+use Rattle.answer.proofs.Check.Laws as E′
 use Rattle.sheet.proofs.print as print
 use Rattle.sheet.proofs.print.Symbol as print-def
 use Rattle.sheet.proofs.print.Symbol.{name as #sheet·print}
@@ -109,7 +110,7 @@ module _ {M : Type 1} (𝓤 : URA M) (H : Heap 𝓤) (A : Atoms 𝓤) (W : Given
       owned ! Counts (Is Counts) (array-makes 𝓤 H A W (UInt w32) (uint-makes 𝓤 H A W w32) 12) (h .counts) _ (counts-are h is) $ fjoin ! $
       move ! (1 ∷ 0 ∷ []) $ join ! $ frame ! $ nothing ! $ done !
 
-  abbrev Ensured : SheetAnswer → SProp 𝓤
+  abbrev Ensured : Check → SProp 𝓤
   Ensured r = ensured 𝓤 H A print.ended (print.clauses 𝓤 H A at-mem run) (κ′, tt) (h .counts, (page, tt)) tt r
 
   -- the page's last list, what says it, and what the contract says of it
@@ -119,14 +120,14 @@ module _ {M : Type 1} (𝓤 : URA M) (H : Heap 𝓤) (A : Atoms 𝓤) (W : Given
   abbrev Lasts : Lists → Fml
   Lasts zs = lasts print.ended (κ′, tt) (h .counts, (page, tt)) zs
 
-  abbrev Says : SheetAnswer → Lists → Type 0
+  abbrev Says : Check → Lists → Type 0
   Says r zs = SheetOf (h .counts) p r (zs .1 .0)
 
   -- [both tokens; what is known of the window's value, and its borrow; what says the page's last list]
   abbrev Left : List ℕ → List (Item 𝓤)
   Left z = ‵ (flft κ q) ∷ ‵ (flft κ′ q₂) ∷ ‵ (fres γ (T.the-row .coded .code h)) ∷ ‵ (fshr-bor κ (λ s. partAt T.the-row s h b o)) ∷ ‵ (finally u8 γ′ z) ∷ []
 
-  exits : (r : SheetAnswer) (v : Val) (zs : Lists) → Is E.the-row r (v ∷ []) → length (zs .1 .0) ≡ length p → Says r zs
+  exits : (r : Check) (v : Val) (zs : Lists) → Is E.the-row r (v ∷ []) → length (zs .1 .0) ≡ length p → Says r zs
       → ent 𝓤 (⋆ 𝓤 H A (Left (zs .1 .0))) (Post v)
   exits r v zs is len e =
       qed W (Left (zs .1 .0)) ∵
@@ -162,7 +163,7 @@ module _ {M : Type 1} (𝓤 : URA M) (H : Heap 𝓤) (A : Atoms 𝓤) (W : Given
         move ! (2 ∷ 4 ∷ []) $ use2 W (raw (Printing 𝓤 H A at-mem run .pre to-print)) (goes-print was) $
         calls-at ! fm (Printing 𝓤 H A at-mem run) known to-print
         (and-then ! (load ! (from ! (stop !)) (look ! 10 refl)) (and-then ! (load ! (from ! (stop !)) (look ! 6 refl)) (no-more !))) (λ v.
-        use1 W (later (some (λ (r : SheetAnswer). ((‵ (flft κ′ q₂) ⊛ ‵ ftrue) ⊛ ‵ (E.the-row .own r (v ∷ []))) ⊛ raw (Ensured r)))) (id⊢ 𝓤 _) $
+        use1 W (later (some (λ (r : Check). ((‵ (flft κ′ q₂) ⊛ ‵ ftrue) ⊛ ‵ (E.the-row .own r (v ∷ []))) ⊛ raw (Ensured r)))) (id⊢ 𝓤 _) $
         await ! tt $ pick ! (λ r. split ! $ move ! (1 ∷ []) $
         use1 W (some (λ (zs : Lists). ‵ (Lasts zs) ⊛ raw (fact 𝓤 (Says r zs)))) (id⊢ 𝓤 _) $ pick ! (λ zs. split ! $ move ! (1 ∷ []) $
         heard ! (Says r zs) (λ e. fsplit ! $ move ! (1 ∷ []) $ fsplit ! $ fsplit ! $ move ! (1 ∷ []) $ feqL ! (λ len.

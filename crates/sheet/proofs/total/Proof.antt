@@ -1,4 +1,5 @@
--- `sheet::total` meets its contract. The loop's invariant: `all` is the sum of the first k counts, and fits. Assumes nothing.
+-- `sheet::total` meets its contract. The loop's invariant: `all` is the sum of the first k counts, and fits; its measure: how many counts are
+-- left. Assumes nothing.
 use mathlib.Core.Path.{_≡_, refl, sym}
 use mathlib.Core.List.{List, [], _∷_}
 use Prim.Native.Nat.{ℕ, zero, suc, _+_, _*_, _-_, _≤_}
@@ -17,7 +18,6 @@ abbrev μ-loop : tie.MeasureT-loop
 μ-loop counts k₀ all₀ k all = 12 - k
 
 sum-more : (k : ℕ) (l : List ℕ) → sum (take (suc k) l) ≡ sum (take k l) + getD l k 0
-unfolding sum
 sum-more zero [] = refl
 sum-more zero (x ∷ l) = omega arith
 sum-more (suc k) [] = refl
@@ -27,7 +27,6 @@ sum-at : (k j : ℕ) (l : List ℕ) (all n : ℕ) → all ≡ sum (take k l) →
 sum-at k j l all n e p s = rw (e, p, s) (sym (sum-more k l))
 
 loop-holds : tie.Need-loop-holds Inv-loop μ-loop
-unfolding sum
 loop-holds c = (omega arith, refl, omega arith)
 
 loop-again : tie.Need-loop-again Inv-loop μ-loop

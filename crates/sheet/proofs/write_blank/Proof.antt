@@ -1,4 +1,5 @@
--- `sheet::write_blank` meets its contract. The loop's invariant: the first i columns are spaces. Assumes nothing.
+-- `sheet::write_blank` meets its contract. The loop's invariant: the first i columns are spaces; its measure: how many columns are left.
+-- Assumes nothing.
 use mathlib.Core.Path.{_≡_, refl, sym, ap, _∙_}
 use mathlib.Core.List.{List, [], _∷_, _++_}
 use Prim.Native.Nat.{ℕ, suc, _+_, _-_, _≤_, _<_}

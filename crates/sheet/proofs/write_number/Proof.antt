@@ -1,5 +1,5 @@
 -- `sheet::write_number` meets its contract. The loop's invariant: the columns of what is left of the number, with those that stand behind them, are all
--- of its columns. Assumes nothing.
+-- of its columns; its measure: how many columns are left. Assumes nothing.
 use mathlib.Core.Path.{_≡_, refl, sym, ap, _∙_}
 use mathlib.Core.List.{List, [], _∷_, _++_}
 use Prim.Native.Nat.{ℕ, suc, _+_, _-_, _/_, _%_, _≤_, _<_}

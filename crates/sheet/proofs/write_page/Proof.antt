@@ -1,4 +1,6 @@
--- `sheet::write_page` meets its contract. The loop's invariant: the lines up to `place` stand, and what follows them is as it was. Assumes nothing.
+-- `sheet::write_page` meets its contract. The loop's invariant: the lines up to `place` stand, and what follows them is as it was; its
+-- measure: how many lines are left. Assumes nothing.
+use mathlib.Core.List.{flatten}
 use mathlib.Core.Path.{_≡_, refl, sym, ap, _∙_}
 use Prim.Native.Nat.{ℕ, _+_, _*_, _-_, _≤_}
 use native.Mathlib.Numerals.{add-one}
@@ -16,6 +18,7 @@ abbrev μ-loop : tie.MeasureT-loop
 μ-loop page₀ counts place₀ page place = 60 - place
 
 loop-holds : tie.Need-loop-holds Inv-loop μ-loop
+unfolding flatten
 loop-holds c = (omega arith, c .before .pre, refl)
 
 loop-again : tie.Need-loop-again Inv-loop μ-loop

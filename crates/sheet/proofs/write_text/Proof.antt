@@ -1,4 +1,5 @@
--- `sheet::write_text` meets its contract. The loop's invariant: the first i bytes of the text stand at the line's start. Assumes nothing.
+-- `sheet::write_text` meets its contract. The loop's invariant: the first i bytes of the text stand at the line's start; its measure: how
+-- many bytes are left. Assumes nothing.
 use mathlib.Core.Path.{_≡_, refl, sym, ap, _∙_}
 use mathlib.Core.List.{List, _++_}
 use Prim.Native.Nat.{ℕ, suc, _+_, _-_, _≤_, _<_}
@@ -34,8 +35,10 @@ module _ (line text now : List ℕ) (i : ℕ) (fits : length text ≤ length lin
 loop-again : tie.Need-loop-again Inv-loop μ-loop
 loop-again c =
     let l = c .before .before .loop in
-    let a = c .before .before .before .args in
-    let more = byte-more (a .line .now) (a .text .now) (l .line) (l .i) (c .before .before .before .pre) (l .inv .0) (l .inv .1) (l .i + 1) (omega arith) (add-one (l .i)) in
+    let start = c .before .before .before in
+    let text = start .args .text .now in
+    let line = start .args .line .now in
+    let more = byte-more line text (l .line) (l .i) (start .pre) (l .inv .0) (l .inv .1) (l .i + 1) (omega arith) (add-one (l .i)) in
     (omega arith, more)
 
 slice-write-line : tie.Need-slice-write-line Inv-loop μ-loop

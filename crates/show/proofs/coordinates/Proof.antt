@@ -6,7 +6,7 @@ use Rattle.show.proofs.coordinates.Statement.{statement}
 use Rattle.show.proofs.coordinates.Tie as tie
 
 returns : tie.Need-returns
-returns c = (simp gap, refl)
+returns c = record { numbers = simp gap; place = refl }
 
 pub coordinates-spec : {M : Type 1} → statement M
 coordinates-spec =

@@ -15,19 +15,41 @@ returns-2 c = simp (eq-eqb _ _ (c .before .if1 .left), ne-eqb _ _ (c .if2 .taken
 
 returns-3 : tie.Need-returns-3
 unfolding slotGiven
-returns-3 c = simp (eq-eqb _ _ (c .before .before .before .before .if1 .left), eq-eqb _ _ (c .before .before .before .if2 .left), c .before .enum-told .given .1, le-leb _ _ (c .if3 .taken))
+returns-3 c =
+    let told = c .before in
+    let spheres = told .before .before in
+    let faces-fit = eq-eqb _ _ (spheres .before .if1 .left) in
+    let spheres-fit = eq-eqb _ _ (spheres .if2 .left) in
+    simp (faces-fit, spheres-fit, told .enum-told .given .1, le-leb _ _ (c .if3 .taken))
 
 returns-4 : tie.Need-returns-4
 unfolding slotGiven
-returns-4 c = simp (eq-eqb _ _ (c .before .before .before .before .if1 .left), eq-eqb _ _ (c .before .before .before .if2 .left), c .before .enum-told2 .given .1, le-leb _ _ (c .if4 .taken))
+returns-4 c =
+    let told = c .before in
+    let spheres = told .before .before in
+    let faces-fit = eq-eqb _ _ (spheres .before .if1 .left) in
+    let spheres-fit = eq-eqb _ _ (spheres .if2 .left) in
+    simp (faces-fit, spheres-fit, told .enum-told2 .given .1, le-leb _ _ (c .if4 .taken))
 
 returns-5 : tie.Need-returns-5
 unfolding slotGiven
-returns-5 c = simp (eq-eqb _ _ (c .before .before .before .before .before .if1 .left), eq-eqb _ _ (c .before .before .before .before .if2 .left), c .before .before .enum-told .given .1, lt-leb _ _ (c .before .if3 .left)) (c .state-at .ensures)
+returns-5 c =
+    let below = c .before in
+    let told = below .before in
+    let spheres = told .before .before in
+    let faces-fit = eq-eqb _ _ (spheres .before .if1 .left) in
+    let spheres-fit = eq-eqb _ _ (spheres .if2 .left) in
+    simp (faces-fit, spheres-fit, told .enum-told .given .1, lt-leb _ _ (below .if3 .left)) (c .state-at .ensures)
 
 returns-6 : tie.Need-returns-6
 unfolding slotGiven
-returns-6 c = simp (eq-eqb _ _ (c .before .before .before .before .before .if1 .left), eq-eqb _ _ (c .before .before .before .before .if2 .left), c .before .before .enum-told2 .given .1, lt-leb _ _ (c .before .if4 .left)) (c .state-at2 .ensures)
+returns-6 c =
+    let below = c .before in
+    let told = below .before in
+    let spheres = told .before .before in
+    let faces-fit = eq-eqb _ _ (spheres .before .if1 .left) in
+    let spheres-fit = eq-eqb _ _ (spheres .if2 .left) in
+    simp (faces-fit, spheres-fit, told .enum-told2 .given .1, lt-leb _ _ (below .if4 .left)) (c .state-at2 .ensures)
 
 pub slot-state-spec : {M : Type 1} → statement M
 slot-state-spec =

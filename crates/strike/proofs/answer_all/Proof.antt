@@ -5,6 +5,7 @@ use native.Mathlib.Omega.{arith}
 use lib.ListN.{length}
 use lib.Seq.{length-take-le}
 use Rattle.strike_records.specs.Line.{LINE}
+use Rattle.set.specs.Set.{setOf}
 use Rattle.strike.specs.Steps.{stateOf}
 use Rattle.strike.proofs.Arrived.{ended}
 use Rattle.strike.proofs.answer_all.Statement.{statement}
@@ -31,14 +32,14 @@ returns c =
     let q = read f .read-all in
     let s = start (read f) in
     let a = s .args in
-    let first = stateOf (a .stage) 0 (a .frame .now) (a .face .now) (a .sphere .now) (a .buffer .now) in
+    let first = stateOf (a .stage) 0 (setOf (a .frame .now) (a .face-store .now) (a .sphere-store .now)) (a .buffer .now) in
     let buffer = q .last .1 .1 .1 .1 .0 in
-    let last = stateOf (q .result .stage) (q .result .kept) (a .frame .now) (q .last .1 .1 .0) (q .last .1 .1 .1 .0) buffer in
+    let last = stateOf (q .result .stage) (q .result .kept) (setOf (a .frame .now) (q .last .1 .1 .0) (q .last .1 .1 .1 .0)) buffer in
     let before = q .last .1 .1 .1 .1 .1 .0 in
     let roomy : LINE ≤ length before = omega (arith, s .pre .1 .1, q .kept .1 .1 .1 .1 .1 .0) in (
       ended (length (a .buffer .now)) (length (a .out .now)) (f .finish .result) (q .result .kept) first last before (f .finish .last .1 .1 .0) roomy
-          (length-take-le (q .result .kept) buffer (q .ensures .1 .1)) (q .ensures .1 .0) (f .finish .ensures .0) (f .finish .ensures .1 .0),
-      omega (arith, f .finish .ensures .1 .1, f .finish .kept .1 .1 .0),
+          (length-take-le (q .result .kept) buffer (q .ensures .1 .1)) (q .ensures .1 .0) (f .finish .ensures),
+      omega (arith, f .finish .ensures .within, f .finish .kept .1 .1 .0),
     )
 
 pub answer-all-spec : {M : Type 1} → statement M

@@ -11,23 +11,24 @@ use lib.Ieee.{Float}
 use lib.ListN.{length}
 use lib.Seq.{length-take-le}
 use Rattle.strike_records.specs.Line.{LINE}
+use Rattle.set.specs.Set.{setOf}
 use Rattle.strike.specs.Steps.{State, stateOf, Read, none}
 use Rattle.strike.proofs.Counted.{Counted, some-left, few-kept, counted-first, read-on, counted-on}
 use Rattle.strike.proofs.read_all.Statement.{statement}
 use Rattle.strike.proofs.read_all.Tie as tie
 
 abbrev Inv-loop : tie.InvT-loop
-Inv-loop frame face₀ sphere₀ buffer₀ out₀ at₀ reads₀ face sphere buffer out at reads =
-    (length face ≡ length face₀)
-    × (length sphere ≡ length sphere₀)
+Inv-loop frame faces₀ spheres₀ buffer₀ out₀ at₀ reads₀ faces spheres buffer out at reads =
+    (length faces ≡ length faces₀)
+    × (length spheres ≡ length spheres₀)
     × (length buffer ≡ length buffer₀)
     × (length out ≡ length out₀)
     × (at .kept ≤ length buffer)
-    × Read (length buffer₀) (length out₀) (stateOf (at₀ .stage) 0 frame face₀ sphere₀ buffer₀) (stateOf (at .stage) (at .kept) frame face sphere buffer)
+    × Read (length buffer₀) (length out₀) (stateOf (at₀ .stage) 0 (setOf frame faces₀ spheres₀) buffer₀) (stateOf (at .stage) (at .kept) (setOf frame faces spheres) buffer)
     × (at .ended ≡ false → Counted reads (at .stage) (at .kept))
 
 abbrev μ-loop : tie.MeasureT-loop
-μ-loop frame face₀ sphere₀ buffer₀ out₀ at₀ reads₀ face sphere buffer out at reads = reads
+μ-loop frame faces₀ spheres₀ buffer₀ out₀ at₀ reads₀ faces spheres buffer out at reads = reads
 
 -- stations
 abbrev start : tie.At-loop Inv-loop μ-loop → tie.Start Inv-loop μ-loop
@@ -70,10 +71,10 @@ module _ (c : tie.After-step Inv-loop μ-loop) where
   frame = start l .args .frame .now
 
   abbrev t : State
-  t = stateOf (l .loop .at .stage) (l .loop .at .kept) frame (l .loop .face) (l .loop .sphere) (l .loop .buffer)
+  t = stateOf (l .loop .at .stage) (l .loop .at .kept) (setOf frame (l .loop .face-store) (l .loop .sphere-store)) (l .loop .buffer)
 
   abbrev u : State
-  u = let r = c .step in stateOf (r .result .stage) (r .result .kept) frame (r .last .1 .1 .0) (r .last .1 .1 .1 .0) (r .last .1 .1 .1 .1 .0)
+  u = let r = c .step in stateOf (r .result .stage) (r .result .kept) (setOf frame (r .last .1 .1 .0) (r .last .1 .1 .1 .0)) (r .last .1 .1 .1 .1 .0)
 
   abbrev out : List ℕ
   out = c .step .last .1 .1 .1 .1 .1 .0
@@ -93,7 +94,7 @@ loop-again c =
     let i = l q .loop in
     let a = start (l q) .args in
     let k = q .step .kept .1 .1 in
-    let first = stateOf (a .stage) 0 (a .frame .now) (a .face .now) (a .sphere .now) (a .buffer .now) in (
+    let first = stateOf (a .stage) 0 (setOf (a .frame .now) (a .face-store .now) (a .sphere-store .now)) (a .buffer .now) in (
       k .0 ∙ i .inv .0,
       k .1 .0 ∙ i .inv .1,
       k .1 .1 .0 ∙ i .inv .2,

@@ -7,8 +7,8 @@ use lib.ListN.{length}
 use lib.Seq.{length-take-le}
 use Rattle.arithmetic.specs.Arith.{ieee}
 use Rattle.origin.specs.Origins.{ORIGINS}
-use Rattle.set.specs.Open.{openGiven}
-use Rattle.strike_records.specs.Session.{setOf}
+use Rattle.set.specs.Set.{setOf}
+use Rattle.set.specs.Open.{openOn}
 use Rattle.strike.specs.Steps.{stateOf, begun, Ended}
 use Rattle.strike.proofs.Arrived.{begins, from-open}
 use Rattle.strike.proofs.run.Statement.{statement}
@@ -44,8 +44,8 @@ answer-all-requires c κs =
     let b = opened c in
     let s = start b in
     let a = s .args in
-    let given = openGiven ieee ORIGINS (a .frame .now) (a .face .now) (a .sphere .now) in
-    (begins (b .begin .result .stage) given (b .begin .ensures .0), (s .pre .0, omega (arith, s .pre .1, b .begin .kept .1 .1 .1 .0)))
+    let given = openOn ieee ORIGINS (setOf (a .frame .now) (a .face-store .now) (a .sphere-store .now)) .answer in
+    (begins (b .begin .result .stage) given (b .begin .ensures .stage-is), (s .pre .0, omega (arith, s .pre .1, b .begin .kept .1 .1 .1 .0)))
 
 slice-aggregate-write-all-2 : tie.Need-slice-aggregate-write-all-2
 slice-aggregate-write-all-2 c = sym (length-take-le _ _ (search needs))
@@ -55,18 +55,19 @@ ends : (c : tie.After-answer-all)
     → let b = opened (c .before) in
     let a = start b .args in
     let q = c .answer-all in
-    let first = begun (setOf (a .frame .now) (a .face .now) (a .sphere .now)) in
+    let first = begun (setOf (a .frame .now) (a .face-store .now) (a .sphere-store .now)) in
     let buffer = q .last .1 .1 .1 .1 .0 in
-    let last = stateOf (q .result .stage) (q .result .kept) (b .begin .last .0) (q .last .1 .1 .0) (q .last .1 .1 .1 .0) buffer in
+    let last = stateOf (q .result .stage) (q .result .kept) (setOf (b .begin .last .0) (q .last .1 .1 .0) (q .last .1 .1 .1 .0)) buffer in
     Ended (length (a .buffer .now)) (length (a .out .now)) first last (q .result .written) (q .last .1 .1 .1 .1 .1 .0)
 ends c =
     let b = opened (c .before) in
     let a = start b .args in
     let o = b .begin in
     let e = o .ensures in
-    from-open (a .frame .now) (a .face .now) (a .sphere .now) (o .last .0) (o .last .1 .0) (o .last .1 .1 .0)
-    (a .buffer .now) (a .out .now) (o .last .1 .1 .1 .0) (o .result .stage)
-    (e .0) (e .1 .1 .1 .0) (e .1 .1 .1 .1 .0) (e .1 .1 .1 .1 .1 .0) (o .kept .1 .1 .1 .0) _ _ _ _ (c .answer-all .ensures .0)
+    let before = setOf (a .frame .now) (a .face-store .now) (a .sphere-store .now) in
+    let after = setOf (o .last .0) (o .last .1 .0) (o .last .1 .1 .0) in
+    from-open before after (a .buffer .now) (a .out .now) (o .last .1 .1 .1 .0) (o .result .stage)
+    (e .stage-is) (e .left) (o .kept .1 .1 .1 .0) _ _ _ _ (c .answer-all .ensures .0)
 
 returns : tie.Need-returns
 returns c = ends (answered (c .before .before .before))

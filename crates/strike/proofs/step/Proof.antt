@@ -1,12 +1,13 @@
 -- `strike::step` meets its contract: it rests, or feeds what arrived, and then the standing is what feeding gives. Assumes nothing.
-use mathlib.Core.Path.{_≡_, refl, sym, ap, _∙_}
+use mathlib.Core.Path.{_≡_, refl, sym, _∙_}
 use mathlib.Core.Bool.{false}
 use mathlib.Core.List.{List}
 use Prim.Native.Nat.{ℕ, _≤_, _<_}
 use borrow.Author.Needs.{needs}
 use native.Mathlib.Omega.{arith}
-use lib.ListN.{length, take}
+use lib.ListN.{length}
 use lib.Seq.{length-take-le}
+use Rattle.set.specs.Set.{setOf}
 use Rattle.strike_records.specs.Pieces.{over}
 use Rattle.strike.specs.Steps.{rests, feeds}
 use Rattle.strike.proofs.Arrived.{arrived, arrived-length, next-is, lines-are}
@@ -73,7 +74,7 @@ module _ (c : tie.After-feed-buffer) where
   within = omega (arith, many, r .read-behind .ensures .0, r .read-behind .kept .0)
 
   buffer-length : c .feed-buffer .result .kept ≤ length (c .feed-buffer .last .1 .1 .1 .1 .0)
-  buffer-length = omega (arith, c .feed-buffer .ensures .1 .0, c .feed-buffer .kept .1 .1 .1 .1 .0)
+  buffer-length = omega (arith, c .feed-buffer .ensures .kept-within, c .feed-buffer .kept .1 .1 .1 .1 .0)
 
 returns-3 : tie.Need-returns-3
 returns-3 c =
@@ -86,13 +87,14 @@ returns-3 c =
     let buffer = t .last .1 .1 .1 .1 .0 in
     let out = t .last .1 .1 .1 .1 .1 .1 .0 in
     let same = b .ensures .1 in
-    let turns = t .ensures .0 in
+    let before = setOf (a .frame .now) (a .face-store .now) (a .sphere-store .now) in
+    let after = setOf (a .frame .now) face sphere in
     let is =
-    next-is (a .frame .now) (a .face .now) (a .sphere .now) face sphere (a .at .stage) (a .at .kept) (b .result)
-    (a .buffer .now) (b .last .0) buffer (a .out .now) out (t .result) same turns in
+    next-is (a .at .stage) before after (a .at .kept) (b .result) (a .buffer .now) (b .last .0) buffer (a .out .now) out (t .result)
+    same (t .ensures) in
     let lines =
-    lines-are (a .frame .now) (a .face .now) (a .sphere .now) face sphere (a .at .stage) (a .at .kept) (b .result)
-    (a .buffer .now) (b .last .0) buffer (a .out .now) out (t .result) same turns in
+    lines-are (a .at .stage) before after (a .at .kept) (b .result) (a .buffer .now) (b .last .0) buffer (a .out .now) out (t .result)
+    same (t .ensures) in
     (feeds (piece f) (filled f) (within f) (goes (from (r f))) is lines _, buffer-length f)
 
 pub step-spec : {M : Type 1} → statement M

@@ -47,7 +47,9 @@ use denote.Triple.Spec.{Meets, tripleOf}
 use denote.Triple.Table.{entered, cited}
 use denote.Triple.Walked.{says, Stays, stay-ref, stay-none, walkOf, goes-none, goes-ref, Walks, ends-at, walked, walk-meets}
 use denote.Exit.{yes}
-use Rattle.window.specs.declared.AddAnswer.{AddAnswer}
+use Rattle.answer.specs.declared.Check.{Check}
+use Rattle.answer.proofs.Check as E
+use Rattle.answer.proofs.Check.Laws as E′
 use Rattle.window.specs.declared.State.{State}
 use Rattle.window.specs.declared.Step.{Step}
 use Rattle.window.specs.declared.Window.{Window}
@@ -59,8 +61,6 @@ use Rattle.window.proofs.State as S
 use Rattle.window.proofs.State.Laws as S′
 use Rattle.window.proofs.Step as G
 use Rattle.window.proofs.Step.Laws as G′
-use Rattle.window.proofs.AddAnswer as E
-use Rattle.window.proofs.AddAnswer.Laws as E′
 use Rattle.window.proofs.Parts.{Words, WordsAre, StateIs, state-low, state-is, window-is, MinutesAt, OriginsAt, CountsAt, StateAt, WindowAt, Back, takes-apart, puts-together}
 use Rattle.window.proofs.add_to_parts as parts
 use Rattle.window.proofs.add_to_parts.Symbol as parts-def
@@ -79,7 +79,7 @@ abbrev stayed : Stays (f.ended .signature .params) (f.ended .kept)
 stayed = (stay-ref (0 ∷ []) tt (plain (λ _. T.the-row)), (stay-none (λ _. u32) yes, (stay-none (λ _. u8) yes, tt)))
 
 -- ---- what is known of the parts of a step
-abbrev AnswerIs : AddAnswer → Type 0
+abbrev AnswerIs : Check → Type 0
 AnswerIs a = Is E.the-row a (E′.lowered a ∷ [])
 
 state-of : (r : Step) {v : Val} → Is G.the-row r (v ∷ []) → StateIs (r .state)
@@ -107,7 +107,7 @@ module _ {M : Type 1} (𝓤 : URA M) (H : Heap 𝓤) (A : Atoms 𝓤) (W : Given
   state-typed : (s : State) → StateIs s → Tᵇ (hasTy S′.mir (S′.lowered s)) × WT (S′.lowered s)
   state-typed s is = LL.lawful S.the-type S′.the-laws 𝓤 H A W .typed s _ is .0
 
-  answer-typed : (c : AddAnswer) → AnswerIs c → Tᵇ (hasTy E′.mir (E′.lowered c)) × WT (E′.lowered c)
+  answer-typed : (c : Check) → AnswerIs c → Tᵇ (hasTy E′.mir (E′.lowered c)) × WT (E′.lowered c)
   answer-typed c is = LE.lawful E.the-type E′.the-laws 𝓤 H A W tt .typed c _ is .0
 
   abbrev Post : Val → SProp 𝓤

@@ -5,7 +5,7 @@ use Prim.Native.Nat.{_<_, _≤_}
 use native.Mathlib.Omega.{arith}
 use borrow.Author.Needs.{needs}
 use Rattle.window.specs.Addition.{lowered}
-use Rattle.window.proofs.Turns.{one-off, all-off}
+use Rattle.window.proofs.Loops.{one-off, all-off}
 use Rattle.window.proofs.lower_counts.Statement.{statement}
 use Rattle.window.proofs.lower_counts.Tie as tie
 

@@ -5,7 +5,7 @@ use Prim.Native.Nat.{_<_, _≤_}
 use native.Mathlib.Omega.{arith}
 use borrow.Author.Needs.{needs}
 use Rattle.window.specs.Addition.{remain}
-use Rattle.window.proofs.Turns.{stays, goes, none-left}
+use Rattle.window.proofs.Loops.{stays, goes, none-left}
 use Rattle.window.proofs.remaining.Statement.{statement}
 use Rattle.window.proofs.remaining.Tie as tie
 

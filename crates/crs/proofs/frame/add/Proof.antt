@@ -16,15 +16,22 @@ slice-aggregate-get-vertex : tie.Need-slice-aggregate-get-vertex
 slice-aggregate-get-vertex c = sym (length-take-le _ _ (omega arith))
 
 returns : tie.Need-returns
-returns c = (dropped ieee _ (c .before .before .before .before .before .before .args .point) (c .before .before .before .before .normalize .result) (c .before .before .before .before .normalize .ensures) _ (sym (c .before .before .get-vertex .ensures) ∙ ap givenVertex (c .enum-told .given .1)), (refl, (omega arith, omega arith)))
+returns c =
+    let looked = c .before .before in
+    let row = looked .before .before in
+    let earlier = sym (looked .get-vertex .ensures) ∙ ap givenVertex (c .enum-told .given .1) in
+    (dropped ieee _ (row .before .before .args .point) (row .normalize .result) (row .normalize .ensures) _ earlier, (refl, (omega arith, omega arith)))
 
 returns-2 : tie.Need-returns-2
 returns-2 c =
-    let a = c .before .before .before .before .before .before .args in
-    let p = c .before .before .before .before .normalize .result in
+    let looked = c .before .before in
+    let new = looked .before .before in
+    let a = new .before .before .args in
+    let p = new .normalize .result in
+    let none = sym (looked .get-vertex .ensures) ∙ ap givenVertex (c .enum-told2 .given .1) in
     let f = take-sets (a .rows .now) (a .used) (row p) (omega arith) in
     let g = drop-sets (a .rows .now) (a .used) (row p) (omega arith) in
-    let e = added ieee _ (a .point) p (c .before .before .before .before .normalize .ensures) _ (sym (c .before .before .get-vertex .ensures) ∙ ap givenVertex (c .enum-told2 .given .1)) in
+    let e = added ieee _ (a .point) p (new .normalize .ensures) _ none in
     rw (add-one (a .used), add-two (a .used)) (f ∙ e, (g, (omega arith, omega arith)))
 
 pub add-spec : {M : Type 1} → statement M

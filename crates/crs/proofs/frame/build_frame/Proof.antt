@@ -1,5 +1,5 @@
--- `frame::build_frame` meets its contract. The loop's invariant: the candidates that are left, added to the rows so far, give the frame, and nothing behind the rows has changed.
--- Assumes nothing.
+-- `frame::build_frame` meets its contract. The loop's invariant: the candidates that are left, added to the rows so far, give the frame, and
+-- nothing behind the rows has changed. The measure: how many candidates are left. Assumes nothing.
 use mathlib.Core.Path.{_≡_, refl, sym, _∙_}
 use Prim.Native.Nat.{_-_, _*_, _≤_, zero-le}
 use native.Mathlib.Omega.{arith}
@@ -14,7 +14,11 @@ use Rattle.crs.proofs.frame.build_frame.Tie as tie
 
 abbrev Inv-loop : tie.InvT-loop
 Inv-loop rows₀ used₀ k₀ rows used k =
-    (used ≤ 3 * k) × (k ≤ 132) × (used ≤ length rows) × (addRows ieee ORIGINS (132 - k) k (take used rows) ≡ frameRows ieee ORIGINS) × (drop used rows ≡ drop used rows₀)
+    (used ≤ 3 * k)
+    × (k ≤ 132)
+    × (used ≤ length rows)
+    × (addRows ieee ORIGINS (132 - k) k (take used rows) ≡ frameRows ieee ORIGINS)
+    × (drop used rows ≡ drop used rows₀)
 
 abbrev μ-loop : tie.MeasureT-loop
 μ-loop rows₀ used₀ k₀ rows used k = 132 - k
@@ -25,13 +29,15 @@ loop-holds c = (zero-le, omega arith, zero-le, refl, refl)
 
 loop-again : tie.Need-loop-again Inv-loop μ-loop
 loop-again c =
-    let v = c .before .before .before .before .loop in
+    let turn = c .before .before .before in
+    let v = turn .before .loop in
+    let start = turn .before .before .args .rows .now in
     let e = rw (c .before .candidate .ensures) at (c .add .ensures .0) in (
       omega arith,
       omega arith,
       omega (arith, c .add .kept .0),
       rw e (sym (next-candidate ieee ORIGINS 132 (v .k) (take (v .used) (v .rows)) (omega arith)) ∙ v .inv .3),
-      c .add .ensures .1 .0 ∙ drop-later (v .rows) (c .before .before .before .before .before .args .rows .now) (v .used) (c .add .result) (c .add .ensures .1 .1 .0) (v .inv .4),
+      c .add .ensures .1 .0 ∙ drop-later (v .rows) start (v .used) (c .add .result) (c .add .ensures .1 .1 .0) (v .inv .4),
     )
 
 returns : tie.Need-returns Inv-loop μ-loop

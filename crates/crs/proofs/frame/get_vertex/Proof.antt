@@ -1,4 +1,5 @@
--- `frame::get_vertex` meets its contract. The loop's invariant: what is left of the frame, from here, gives the answer of the whole. Assumes nothing.
+-- `frame::get_vertex` meets its contract. The loop's invariant: what is left of the frame, from here, gives the answer of the whole. The
+-- measure: how many numbers are left. Assumes nothing.
 use mathlib.Core.Path.{_≡_, refl, sym, _∙_}
 use Prim.Native.Nat.{_≤_, _-_, zero-le}
 use native.Mathlib.Omega.{arith}
@@ -19,15 +20,25 @@ loop-holds : tie.Need-loop-holds Inv-loop μ-loop
 loop-holds c = (zero-le, refl)
 
 returns : tie.Need-returns Inv-loop μ-loop
-returns c = let a = c .before .before .before .before .before .before .before .before .args in sym (found ieee (a .frame .now) (a .point) (c .before .before .before .before .before .before .loop .at) (omega arith) (sym (c .before .near .ensures) ∙ c .if1 .taken)) ∙ c .before .before .before .before .before .before .loop .inv .1
+returns c =
+    let read = c .before .before .before in
+    let turn = read .before .before .before in
+    let a = turn .before .before .args in
+    let hit = sym (c .before .near .ensures) ∙ c .if1 .taken in
+    sym (found ieee (a .frame .now) (a .point) (turn .loop .at) (omega arith) hit) ∙ turn .loop .inv .1
 
 loop-again : tie.Need-loop-again Inv-loop μ-loop
 loop-again c =
-    let a = c .before .before .before .before .before .before .before .before .args in
-    (omega arith, sym (missed ieee (a .frame .now) (a .point) (c .before .before .before .before .before .before .loop .at) (omega arith) (sym (c .before .near .ensures) ∙ c .if1 .left)) ∙ c .before .before .before .before .before .before .loop .inv .1)
+    let read = c .before .before .before in
+    let turn = read .before .before .before in
+    let a = turn .before .before .args in
+    let miss = sym (c .before .near .ensures) ∙ c .if1 .left in
+    (omega arith, sym (missed ieee (a .frame .now) (a .point) (turn .loop .at) (omega arith) miss) ∙ turn .loop .inv .1)
 
 returns-2 : tie.Need-returns-2 Inv-loop μ-loop
-returns-2 c = let a = c .before .before .before .args in sym (at-end ieee (a .frame .now) (a .point) (c .before .loop .at) (omega arith)) ∙ c .before .loop .inv .1
+returns-2 c =
+    let a = c .before .before .before .args in
+    sym (at-end ieee (a .frame .now) (a .point) (c .before .loop .at) (omega arith)) ∙ c .before .loop .inv .1
 
 pub get-vertex-spec : {M : Type 1} → statement M
 get-vertex-spec =

@@ -4,4 +4,10 @@ use Rattle.crs.proofs.frame.near.Statement.{statement}
 use Rattle.crs.proofs.frame.near.Tie as tie
 
 pub near-spec : {M : Type 1} → statement M
-near-spec = tie.close (tie.spec (λ c. near-squared (c .before .before .before .before .before .before .args .point) (c .before .before .before .before .before .before .args .vertex)))
+near-spec =
+    tie.close
+    (tie.spec
+    (λ c.
+    let y = c .before .before .before in
+    let a = y .before .before .before .args in
+    near-squared (a .point) (a .vertex)))

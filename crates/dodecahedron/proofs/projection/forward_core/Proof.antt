@@ -1,34 +1,69 @@
--- `projection::forward_core` meets its contract. Assumes nothing.
-use mathlib.Core.Path.{sym, ap, _∙_}
+-- `projection::forward_core` meets its contract: refused with what the triangles are, or done with them. Assumes nothing.
+use mathlib.Core.Path.{_≡_, sym, ap, _∙_}
 use borrow.Author.Needs.{needs}
 use Rattle.arithmetic.specs.Arith.{ieee}
-use Rattle.origin.specs.Origins.{ORIGINS}
-use Rattle.set.proofs.Lengths.{fits-set}
-use Rattle.triangles.specs.Taken.{givenTaken}
+use Rattle.coordinates.specs.CoordinateTransforms.{toCartesian}
+use Rattle.origin.specs.Origins.{ORIGINS, originAt}
+use Rattle.set.specs.Outcome.{held}
+use Rattle.set.proofs.Lengths.{call-passed}
+use Rattle.triangles.specs.Taken.{givenTaken, takenFor}
+use Rattle.dodecahedron.specs.Projection.{polarAbout}
 use Rattle.dodecahedron.proofs.Worked.{forward-refused, forward-done}
 use Rattle.dodecahedron.proofs.projection.forward_core.Statement.{statement}
 use Rattle.dodecahedron.proofs.projection.forward_core.Tie as tie
 
+abbrev start : tie.After-take → tie.Start
+start c =
+    let cartesian = c .before .before .before in
+    let known = cartesian .before .before .before in
+    known .before
+
+-- the triangles are those of the polar point about the origin's axis
+taken : (c : tie.After-take) → let a = start c .args in
+    givenTaken (c .take .result)
+    ≡ takenFor ieee ORIGINS (held (a .frame) (a .face-store) (a .sphere-store)) (a .origin)
+    (polarAbout ieee (originAt ORIGINS (a .origin)) (toCartesian ieee (a .spherical)))
+taken c =
+    let polar = c .before in
+    let origin = polar .before in
+    let cartesian = origin .before in
+    rw (polar .polar-about .ensures, origin .get-origin .ensures, cartesian .to-cartesian .ensures) at (c .take .ensures)
+
 frame-constants-requires : tie.Need-frame-constants-requires
-frame-constants-requires c κs = c .before .before .before .before .before .before .before .before .before .before .before .before .before .before .before .pre .0 .0
+frame-constants-requires c κs =
+    let used = c .before .before .before in
+    let found = used .before .before .before in
+    let take = found .before .before in
+    call-passed _ _ (start take .pre .0) .0 .frame
 
 returns : tie.Need-returns
 returns c =
-    let a = c .before .before .before .before .before .before .before .before .before .before .args in
-    let h = c .before .before .before .before .before .before .before .before .before .before .pre in
-    let e = rw (c .before .before .before .before .polar-about .ensures, c .before .before .before .before .before .get-origin .ensures, c .before .before .before .before .before .before .to-cartesian .ensures) at (c .before .before .before .take .ensures) in
-    forward-refused ieee ORIGINS (a .frame .now) (a .face-store .now) (a .sphere-store .now) (a .origin) (a .spherical) _ (fits-set _ _ _ _ (h .0 .0) (h .0 .1) (h .1 .0) (h .1 .1)) (sym e ∙ ap givenTaken (c .before .n .given .1))
+    let take = c .before .before .before in
+    forward-refused ieee ORIGINS _ _ _ _ (start take .pre .0) (sym (taken take) ∙ ap givenTaken (c .before .n .given .1))
 
 returns-2 : tie.Need-returns-2
 returns-2 c =
-    let a = c .before .before .before .before .before .before .before .before .before .before .before .before .before .before .before .before .before .args in
-    let h = c .before .before .before .before .before .before .before .before .before .before .before .before .before .before .before .before .before .pre in
-    let e = rw (c .before .before .before .before .before .before .before .before .before .before .before .polar-about .ensures, c .before .before .before .before .before .before .before .before .before .before .before .before .get-origin .ensures, c .before .before .before .before .before .before .before .before .before .before .before .before .before .to-cartesian .ensures) at (c .before .before .before .before .before .before .before .before .before .before .take .ensures) in
-    rw (c .forward .ensures, c .before .frame-constants .ensures, c .before .before .cross .ensures, c .before .before .before .before .before .before .before .before .before .before .before .before .before .to-cartesian .ensures)
-    (forward-done ieee ORIGINS (a .frame .now) (a .face-store .now) (a .sphere-store .now) (a .origin) (a .spherical) _ (fits-set _ _ _ _ (h .0 .0) (h .0 .1) (h .1 .0) (h .1 .1)) (sym e ∙ ap givenTaken (c .before .before .before .before .before .before .before .before .taken .given .1)))
-
-to-cartesian-requires : tie.Need-to-cartesian-requires
-to-cartesian-requires c κs = (c .before .before .before .pre .1 .2, c .before .before .before .pre .1 .3)
+    let constants = c .before in
+    let product = constants .before in
+    let used = product .before .before .before in
+    let found = used .before .before .before in
+    let take = found .before .before in
+    let cartesian = take .before .before .before in
+    rw (c .forward .ensures, product .cross .ensures, constants .frame-constants .ensures, cartesian .to-cartesian .ensures)
+    (forward-done ieee ORIGINS _ _ _ _ (start take .pre .0) (sym (taken take) ∙ ap givenTaken (found .taken .given .1)))
 
 pub forward-core-spec : {M : Type 1} → statement M
-forward-core-spec = tie.close (tie.spec to-cartesian-requires (λ c κs. tt) (λ c κs. tt) (λ c κs. search needs) (λ c. search needs) (λ c. search needs) (λ c κs. tt) frame-constants-requires (λ c κs. tt) returns returns-2)
+forward-core-spec =
+    tie.close
+    (tie.spec
+    (λ c κs. search needs)
+    (λ c κs. search needs)
+    (λ c κs. search needs)
+    (λ c κs. search needs)
+    (λ c. search needs)
+    (λ c. search needs)
+    (λ c κs. search needs)
+    frame-constants-requires
+    (λ c κs. search needs)
+    returns
+    returns-2)

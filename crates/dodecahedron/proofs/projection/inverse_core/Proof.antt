@@ -1,52 +1,75 @@
--- `projection::inverse_core` meets its contract. Assumes nothing.
-use mathlib.Core.Path.{sym, ap, _∙_}
+-- `projection::inverse_core` meets its contract: refused with what the triangles are, with 19, or done. Assumes nothing.
+use mathlib.Core.Path.{_≡_, sym, ap, _∙_}
 use borrow.Author.Needs.{needs}
 use Rattle.arithmetic.specs.Arith.{ieee}
+use Rattle.coordinates.specs.CoordinateTransforms.{toPolar}
 use Rattle.origin.specs.Origins.{ORIGINS}
 use Rattle.equal_area.specs.EqualArea.{givenPoint}
-use Rattle.set.proofs.Lengths.{fits-set}
-use Rattle.triangles.specs.Taken.{givenTaken}
+use Rattle.set.specs.Outcome.{held}
+use Rattle.set.proofs.Lengths.{call-passed}
+use Rattle.triangles.specs.Taken.{givenTaken, takenFor}
 use Rattle.dodecahedron.proofs.Worked.{inverse-refused, inverse-outside, inverse-done}
 use Rattle.dodecahedron.proofs.projection.inverse_core.Statement.{statement}
 use Rattle.dodecahedron.proofs.projection.inverse_core.Tie as tie
 
+abbrev start : tie.After-take → tie.Start
+start c =
+    let known = c .before .before .before in
+    known .before .before
+
+taken : (c : tie.After-take) → let a = start c .args in
+    givenTaken (c .take .result)
+    ≡ takenFor ieee ORIGINS (held (a .frame) (a .face-store) (a .sphere-store)) (a .origin) (toPolar ieee (a .face))
+taken c = rw (c .before .to-polar .ensures) at (c .take .ensures)
+
+frame-constants-requires : tie.Need-frame-constants-requires
+frame-constants-requires c κs =
+    let found = c .before .before in
+    let take = found .before .before in
+    call-passed _ _ (start take .pre) .0 .frame
+
 returns : tie.Need-returns
 returns c =
-    let a = c .before .before .before .before .before .before .before .before .args in
-    let h = c .before .before .before .before .before .before .before .before .pre in
-    let e = rw (c .before .before .before .before .to-polar .ensures) at (c .before .before .before .take .ensures) in
-    inverse-refused ieee ORIGINS (a .frame .now) (a .face-store .now) (a .sphere-store .now) (a .origin) (a .face) _ (fits-set _ _ _ _ (h .0 .0) (h .0 .1) (h .1 .0) (h .1 .1)) (sym e ∙ ap givenTaken (c .before .n .given .1))
+    let take = c .before .before .before in
+    inverse-refused ieee ORIGINS _ _ _ _ (start take .pre) (sym (taken take) ∙ ap givenTaken (c .before .n .given .1))
 
 returns-2 : tie.Need-returns-2
 returns-2 c =
-    let a = c .before .before .before .before .before .before .before .before .before .before .before .before .before .before .args in
-    let h = c .before .before .before .before .before .before .before .before .before .before .before .before .before .before .pre in
-    let e = rw (c .before .before .before .before .before .before .before .before .before .before .to-polar .ensures) at (c .before .before .before .before .before .before .before .before .before .take .ensures) in
-    let p = rw (c .before .before .before .before .frame-constants .ensures) at (c .before .before .before .inverse .ensures) in
-    inverse-outside ieee ORIGINS (a .frame .now) (a .face-store .now) (a .sphere-store .now) (a .origin) (a .face) _ _ (fits-set _ _ _ _ (h .0 .0) (h .0 .1) (h .1 .0) (h .1 .1)) (sym e ∙ ap givenTaken (c .before .before .before .before .before .before .before .taken .given .1)) (sym p ∙ ap givenPoint (c .before .n2 .given .1))
+    let point = c .before .before .before in
+    let constants = point .before in
+    let found = constants .before .before .before in
+    let take = found .before .before in
+    let answer = rw (constants .frame-constants .ensures) at (point .inverse .ensures) in
+    inverse-outside ieee ORIGINS _ _ _ _ _ (start take .pre)
+    (sym (taken take) ∙ ap givenTaken (found .taken .given .1))
+    (sym answer ∙ ap givenPoint (c .before .point .given .1))
 
 returns-3 : tie.Need-returns-3
 returns-3 c =
-    let a = c .before .before .before .before .before .before .before .before .before .before .before .before .before .before .before .args in
-    let h = c .before .before .before .before .before .before .before .before .before .before .before .before .before .before .before .pre in
-    let e = rw (c .before .before .before .before .before .before .before .before .before .before .before .to-polar .ensures) at (c .before .before .before .before .before .before .before .before .before .before .take .ensures) in
-    let p = rw (c .before .before .before .before .before .frame-constants .ensures) at (c .before .before .before .before .inverse .ensures) in
+    let done = c .before .before in
+    let point = done .before .before in
+    let constants = point .before in
+    let found = constants .before .before .before in
+    let take = found .before .before in
+    let answer = rw (constants .frame-constants .ensures) at (point .inverse .ensures) in
     rw (c .to-spherical .ensures)
-    (inverse-done ieee ORIGINS (a .frame .now) (a .face-store .now) (a .sphere-store .now) (a .origin) (a .face) _ _ (fits-set _ _ _ _ (h .0 .0) (h .0 .1) (h .1 .0) (h .1 .1)) (sym e ∙ ap givenTaken (c .before .before .before .before .before .before .before .before .taken .given .1)) (sym p ∙ ap givenPoint (c .before .before .unprojected .given .1)))
+    (inverse-done ieee ORIGINS _ _ _ _ _ (start take .pre)
+    (sym (taken take) ∙ ap givenTaken (found .taken .given .1))
+    (sym answer ∙ ap givenPoint (done .point2 .given .1)))
 
 pub inverse-core-spec : {M : Type 1} → statement M
 inverse-core-spec =
     tie.close
     (tie.spec
-    (λ c κs. tt)
+    (λ c κs. search needs)
+    (λ c κs. search needs)
+    (λ c. search needs)
+    (λ c. search needs)
+    frame-constants-requires
     (λ c κs. search needs)
     (λ c. search needs)
     (λ c. search needs)
     (λ c κs. search needs)
-    (λ c κs. tt)
-    (λ c. search needs)
-    (λ c. search needs)
-    (λ c κs. tt)
     returns
     returns-2
     returns-3)

@@ -4,4 +4,14 @@ use Rattle.elementary.proofs.arctangent.atan.Statement.{statement}
 use Rattle.elementary.proofs.arctangent.atan.Tie as tie
 
 pub atan-spec : {M : Type 1} → statement M
-atan-spec = tie.close (tie.spec (λ c κs. tt) (λ c κs. tt) (λ c κs. tt) (λ c κs. tt) (λ c. rw (c .with-sign .ensures, c .before .atan-size .ensures, c .before .before .abs .ensures, c .before .before .before .negative .ensures) (atan-is _)))
+atan-spec =
+    tie.close
+    (tie.spec
+    (λ c κs. tt)
+    (λ c κs. tt)
+    (λ c κs. tt)
+    (λ c κs. tt)
+    (λ c.
+    let sized = c .before in
+    let positive = sized .before in
+    rw (c .with-sign .ensures, sized .atan-size .ensures, positive .abs .ensures, positive .before .negative .ensures) (atan-is _)))

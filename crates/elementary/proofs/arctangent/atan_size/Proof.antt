@@ -6,4 +6,10 @@ use Rattle.elementary.proofs.arctangent.atan_size.Tie as tie
 
 pub atan-size-spec : {M : Type 1} → statement M
 unfolding atanSize ofBits
-atan-size-spec = tie.close (tie.spec (λ c κs. tt) (λ c κs. tt) (λ c. rw (c .before .if1 .taken, c .core .ensures)) (λ c. rw (c .before .if1 .left, c .core2 .ensures)))
+atan-size-spec =
+    tie.close
+    (tie.spec
+    (λ c κs. tt)
+    (λ c κs. tt)
+    (λ c. rw (c .before .if1 .taken, c .core .ensures))
+    (λ c. rw (c .before .if1 .left, c .core2 .ensures)))

@@ -6,4 +6,10 @@ use Rattle.elementary.proofs.arctangent.core.Tie as tie
 
 pub core-spec : {M : Type 1} → statement M
 unfolding core ofBits
-core-spec = tie.close (tie.spec (λ c κs. tt) (λ c κs. tt) (λ c κs. tt) (λ c. rw (c .core-series .ensures, c .before .halved2 .ensures, c .before .before .halved .ensures)))
+core-spec =
+    tie.close
+    (tie.spec
+    (λ c κs. tt)
+    (λ c κs. tt)
+    (λ c κs. tt)
+    (λ c. rw (c .core-series .ensures, c .before .halved2 .ensures, c .before .before .halved .ensures)))

@@ -1,3 +1,4 @@
+-- `sine::cosine_series` meets its contract: each line of the code is one step of the cosine's series. Assumes nothing.
 use mathlib.Core.Path.{refl}
 use lib.Ieee.{ofBits}
 use Rattle.elementary.specs.Constants.{cosineFirst, cosineRest}

@@ -1,3 +1,4 @@
+-- `sine::sine_series` meets its contract: each line of the code is one step of the sine's series. Assumes nothing.
 use mathlib.Core.Path.{refl}
 use lib.Ieee.{ofBits}
 use Rattle.elementary.specs.Constants.{sineFirst, sineRest}

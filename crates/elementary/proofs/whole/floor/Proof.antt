@@ -1,15 +1,16 @@
 -- `floor` meets its contract: a value with no fraction is its own, and any other's is made from its whole part and its sign. Assumes nothing.
-use mathlib.Core.Path.{_≡_, ap, _∙_}
+use mathlib.Core.Path.{_≡_, sym, ap, _∙_}
 use Prim.Native.Nat.{suc, _+_, _*_, _/_, _^_, _≤_, _<_}
 use native.Mathlib.Numerals.{add-one}
 use native.Mathlib.Omega.{arith}
 use borrow.Author.Needs.{needs}
 use mathlib.Core.Bool.{true, false}
 use lib.Dec.{le→leb}
-use lib.Ieee.{binary64, ofInt, ofBits, inFloat}
+use lib.Ieee.{Float, binary64, ofInt, ofBits, inFloat}
 use lib.Ieee.Positive.{num, den, den-pos}
 use Rattle.arithmetic.proofs.Rounding.{neg-round}
-use Rattle.elementary.proofs.Fraction.{Below, below, Fraction, cut-below, cut-lt, cut-back, large-whole, equal, unequal, sign-is, floor-whole, floor-part}
+use Rattle.elementary.specs.Whole.{floorSize}
+use Rattle.elementary.proofs.Fraction.{Below, below, Fraction, cut-below, cut-lt, cut-back, up-part, large-whole, equal, unequal, sign-is, floor-whole, floor-part}
 use Rattle.elementary.proofs.whole.floor.Statement.{statement}
 use Rattle.elementary.proofs.whole.floor.Tie as tie
 
@@ -46,7 +47,11 @@ returns-2 c =
     let x = b .before .before .before .args .x in
     floor-whole x (equal x (b .before .before .abs .result) (b .truncating-f64-to-u64 .result) (small (b .before)) (part-le b) (c .if2 .taken))
 
-fraction : (c : tie.Else2) → Fraction (c .before .before .before .before .before .args .x)
+-- x, from where y is known
+abbrev given : tie.Else2 → Float
+given c = let b = c .before .before in b .before .before .before .args .x
+
+fraction : (c : tie.Else2) → Fraction (given c)
 fraction c =
     let b = c .before .before in
     let x = b .before .before .before .args .x in
@@ -62,8 +67,9 @@ returns-3 c =
     let e = c .before .before in
     let b = e .before .before in
     let x = b .before .before .before .args .x in
-    let k = b .truncating-f64-to-u64 .result + 1 in
-    neg-round binary64 false k 1 ∙ floor-part x true k (fraction e) (sign-is x true (fraction e) (c .before .if3 .taken)) (add-one (b .truncating-f64-to-u64 .result) ∙ ap suc (part b))
+    let k = b .truncating-f64-to-u64 .result in
+    let next : k + 1 ≡ floorSize true (num x) (den x) = add-one k ∙ ap suc (part b) ∙ sym (up-part (num x) (den x) (den-pos x) (fraction e)) in
+    neg-round binary64 false (k + 1) 1 ∙ floor-part x true (k + 1) (fraction e) (sign-is x true (fraction e) (c .before .if3 .taken)) next
 
 returns-4 : tie.Need-returns-4
 unfolding ofInt
@@ -75,7 +81,9 @@ returns-4 c =
 
 int-to-float-result : tie.Need-int-to-float-result
 unfolding inFloat
-int-to-float-result c = le→leb (c .before .before .before .before .truncating-f64-to-u64 .result + 1) (2 ^ 53) (omega (arith, part-lt (c .before .before .before .before)))
+int-to-float-result c =
+    let b = c .before .before .before in
+    le→leb (b .before .truncating-f64-to-u64 .result + 1) (2 ^ 53) (omega (arith, part-lt (b .before)))
 
 pub floor-spec : {M : Type 1} → statement M
 floor-spec =

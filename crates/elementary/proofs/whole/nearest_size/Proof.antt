@@ -16,10 +16,13 @@ truncating-f64-to-u64-requires c κs = known c .cut .asks
 
 answer : (c : tie.After-truncating-f64-to-u64) → (c .truncating-f64-to-u64 .result + 1) / 2 ≡ roundSize (num (c .before .args .a)) (den (c .before .args .a))
 answer c =
-    ap (λ t. (t + 1) / 2) (c .truncating-f64-to-u64 .ensures ∙ known (c .before) .cut .is) ∙ halves (num (c .before .args .a)) (den (c .before .args .a)) (den-pos (c .before .args .a))
+    let a = c .before .args .a in
+    ap (λ t. (t + 1) / 2) (c .truncating-f64-to-u64 .ensures ∙ known (c .before) .cut .is) ∙ halves (num a) (den a) (den-pos a)
 
 returns : tie.Need-returns
-returns c = (answer c, rw (answer c) (round-size-le (num (c .before .args .a)) (den (c .before .args .a)) (den-pos (c .before .args .a)) (known (c .before) .small)))
+returns c =
+    let a = c .before .args .a in
+    (answer c, rw (answer c) (round-size-le (num a) (den a) (den-pos a) (known (c .before) .small)))
 
 add-result : tie.Need-add-result
 add-result c = omega (arith, returns c .1)

@@ -6,7 +6,7 @@ use borrow.Author.Needs.{needs}
 use borrow.Author.Tests.{not-false}
 use mathlib.Core.Bool.{true, false}
 use lib.Dec.{le→leb}
-use lib.Ieee.{binary64, lt, ofInt, ofBits, inFloat}
+use lib.Ieee.{Float, binary64, lt, ofInt, ofBits, inFloat}
 use lib.Ieee.Positive.{num, den, den-pos}
 use Rattle.arithmetic.proofs.Rounding.{neg-round}
 use Rattle.elementary.specs.Whole.{roundSize}
@@ -27,10 +27,14 @@ small c = below (c .before .before .args .x) (c .before .abs .result) (c .before
 
 nearest-size-requires : tie.Need-nearest-size-requires
 unfolding ofBits
-nearest-size-requires c κs = (abs-positive (c .before .before .args .x) (c .before .abs .result) (c .before .abs .ensures), not-false (lt (c .before .abs .result) 2^52) (c .if1 .left))
+nearest-size-requires c κs =
+    let a = c .before .abs in
+    (abs-positive (c .before .before .args .x) (a .result) (a .ensures), not-false (lt (a .result) 2^52) (c .if1 .left))
 
 nearest : (c : tie.After-nearest-size) → let x = c .before .before .before .args .x in c .nearest-size .result ≡ roundSize (num x) (den x)
-nearest c = c .nearest-size .ensures .0 ∙ same-size (c .before .before .before .args .x) (c .before .before .abs .result) (c .before .before .abs .ensures)
+nearest c =
+    let a = c .before .before .abs in
+    c .nearest-size .ensures .0 ∙ same-size (c .before .before .before .args .x) (a .result) (a .ensures)
 
 nearest-le : (c : tie.After-nearest-size) → c .nearest-size .result ≤ 2 ^ 53
 nearest-le c = omega (arith, c .nearest-size .ensures .1)
@@ -45,7 +49,11 @@ returns-2 c =
     let x = b .before .before .before .args .x in
     round-whole x (equal x (b .before .before .abs .result) (b .nearest-size .result) (small (b .before)) (nearest-le b) (c .if2 .taken))
 
-fraction : (c : tie.Else2) → Fraction (c .before .before .before .before .before .args .x)
+-- x, from where y is known
+abbrev given : tie.Else2 → Float
+given c = let b = c .before .before in b .before .before .before .args .x
+
+fraction : (c : tie.Else2) → Fraction (given c)
 fraction c =
     let b = c .before .before in
     let x = b .before .before .before .args .x in

@@ -2,14 +2,27 @@
 use mathlib.Core.Path.{refl, sym, ap, _∙_}
 use borrow.Author.Needs.{needs}
 use Rattle.coordinates.specs.Conversions.{givenLonLat}
+use Rattle.exports.proofs.Returns.{returns-answer, returns-refusal}
 use Rattle.exports.proofs.calls.a5_unplace.Statement.{statement}
 use Rattle.exports.proofs.calls.a5_unplace.Tie as tie
 
 returns : tie.Need-returns
-returns c = let o = c .before .before .before .before .before .before .before .before .unplace .ensures in rw (sym (o .0) ∙ ap givenLonLat (c .before .before .given .given .1)) (refl, (o .1 .0, (o .1 .1, refl)))
+returns c =
+    let at-given = c .before .before in
+    let at-sphere-store = at-given .before .before .before in
+    let at-unplace = at-sphere-store .before .before .before in
+    let call = at-unplace .unplace .ensures in
+    let answer = sym (call .answer) ∙ ap givenLonLat (at-given .given .given .1) in
+    record { returns = returns-answer _ answer refl refl; left = call .left }
 
 returns-2 : tie.Need-returns-2
-returns-2 c = let o = c .before .before .before .before .before .before .before .before .unplace .ensures in rw (sym (o .0) ∙ ap givenLonLat (c .before .before .given2 .given .1)) (c .number .ensures, (o .1 .0, (o .1 .1, refl)))
+returns-2 c =
+    let at-given2 = c .before .before in
+    let at-sphere-store = at-given2 .before .before .before in
+    let at-unplace = at-sphere-store .before .before .before in
+    let call = at-unplace .unplace .ensures in
+    let refusal = sym (call .answer) ∙ ap givenLonLat (at-given2 .given2 .given .1) in
+    record { returns = returns-refusal _ refusal (c .number .ensures) refl; left = call .left }
 
 pub a5-unplace-spec : {M : Type 1} → statement M
 a5-unplace-spec =

@@ -39,7 +39,7 @@ use denote.Triple.Spec.{Meets, tripleOf}
 use denote.Triple.Table.{entered, cited}
 use denote.Triple.Walked.{says, Stays, gave-ref, stay-none, walkOf, goes-none, goes-gave-ref, Walks, ends-at, walked, walk-meets}
 use denote.Exit.{yes}
-use Rattle.answer.specs.Given.{Given as Gives}
+use Rattle.answer.specs.Given.{status, Given as Gives}
 use Rattle.answer.specs.Answer.{givenCheck}
 use Rattle.answer.specs.declared.Check.{Check}
 use Rattle.answer.proofs.Check as E
@@ -47,7 +47,7 @@ use Rattle.answer.proofs.Check.Laws as E′
 use Rattle.coordinates.specs.declared.coords.Face.{Face}
 use Rattle.coordinates.proofs.coords.Face as P
 use Rattle.coordinates.proofs.coords.Face.Laws as P′
-use Rattle.set.specs.Checks.{checkFace}
+use Rattle.coordinates.specs.Conversions.{checkFace}
 use Rattle.caption_box.specs.declared.CaptionBox.{CaptionBox}
 use Rattle.caption_box.specs.Sides.{taken, TakesIn}
 use Rattle.caption_box.proofs.CaptionBox as B
@@ -55,16 +55,16 @@ use Rattle.caption_box.proofs.take_in as take
 use Rattle.caption_box.proofs.take_in.Symbol as take-def
 use Rattle.caption_box.proofs.take_in.Symbol.{name as #take-in}
 use Rattle.caption_box.proofs.take_in.Met as take-thm
-use Rattle.exports_tools.specs.Status.{status, facePoint}
+use Rattle.coordinates.specs.CoordinateTransforms.{face}
 use Rattle.exports_tools.specs.Boxes.{BoxTakes}
 use Rattle.exports_tools.proofs.boxes.face_point as point
 use Rattle.exports_tools.proofs.boxes.face_point.Symbol as point-def
 use Rattle.exports_tools.proofs.boxes.face_point.Symbol.{name as #face-point}
 use Rattle.exports_tools.proofs.boxes.face_point.Met as point-thm
-use Rattle.exports_tools.proofs.boxes.check_status as number
-use Rattle.exports_tools.proofs.boxes.check_status.Symbol as number-def
-use Rattle.exports_tools.proofs.boxes.check_status.Symbol.{name as #check-status}
-use Rattle.exports_tools.proofs.boxes.check_status.Met as number-thm
+use Rattle.answer.proofs.status as number
+use Rattle.answer.proofs.status.Symbol as number-def
+use Rattle.answer.proofs.status.Symbol.{name as #answer·status}
+use Rattle.answer.proofs.status.Met as number-thm
 use Rattle.exports_tools.proofs.boxes.a5_box_take.Key.{name as #a5-box-take}
 use Rattle.exports_tools.proofs.boxes.a5_box_take as f
 use Rattle.exports_tools.proofs.boxes.a5_box_take.Statement as stated
@@ -82,7 +82,7 @@ Lasts = CaptionBox × (Unit {0} × Unit {0})
 
 -- the three contracts together are the function's
 box-takes : (n : ℕ) (c : Check) (zs : Lasts) (h : CaptionBox) (p : Face) (x y : Float)
-    → p ≡ facePoint x y → TakesIn (givenCheck c) (zs .0) h p → n ≡ status (givenCheck c) → BoxTakes n (zs .0) h (facePoint x y)
+    → p ≡ face x y → TakesIn (givenCheck c) (zs .0) h p → n ≡ status (givenCheck c) → BoxTakes n (zs .0) h (face x y)
 box-takes n c zs h p x y at-point e en =
     record {
       answer = en ∙ ap (λ (g : Gives (Unit {0})). status g) (e .answer) ∙ ap (λ (r : Face). status (checkFace r)) at-point;
@@ -101,7 +101,7 @@ module _ {M : Type 1} (𝓤 : URA M) (H : Heap 𝓤) (A : Atoms 𝓤) (at-mem : 
   Number = tripleOf 𝓤 H A number.signature (number.spec 𝓤 H A at-mem run)
 
   abbrev Known : Calls 𝓤 H → Type 1
-  Known C = Triple 𝓤 (C #face-point) Point × (Triple 𝓤 (C #take-in) Take × Triple 𝓤 (C #check-status) Number)
+  Known C = Triple 𝓤 (C #face-point) Point × (Triple 𝓤 (C #take-in) Take × Triple 𝓤 (C #answer·status) Number)
 
 module _ {M : Type 1} (𝓤 : URA M) (H : Heap 𝓤) (A : Atoms 𝓤) (W : Given 𝓤 H A) (at-mem : Memory → SProp 𝓤) (run : Routine → Fun 𝓤)
     (κ : Lft) (q : Share) (b o : ℕ) (γ : GName) (h : CaptionBox) (x y : Float) (x-ok : fits binary64 x ≡ true) (y-ok : fits binary64 y ≡ true) where
@@ -129,8 +129,8 @@ module _ {M : Type 1} (𝓤 : URA M) (H : Heap 𝓤) (A : Atoms 𝓤) (W : Given
   abbrev Pointed : Face → SProp 𝓤
   Pointed p = ensured 𝓤 H A point.ended (point.clauses 𝓤 H A at-mem run) tt (x, (y, tt)) tt p
 
-  point-gives : (p : Face) → ent 𝓤 (Pointed p) (fact 𝓤 (p ≡ facePoint x y))
-  point-gives p = exE 𝓤 _ (λ ws. snd∗ 𝓤 (sem 𝓤 H A (lasts point.ended tt (x, (y, tt)) ws)) (fact 𝓤 (p ≡ facePoint x y)))
+  point-gives : (p : Face) → ent 𝓤 (Pointed p) (fact 𝓤 (p ≡ face x y))
+  point-gives p = exE 𝓤 _ (λ ws. snd∗ 𝓤 (sem 𝓤 H A (lasts point.ended tt (x, (y, tt)) ws)) (fact 𝓤 (p ≡ face x y)))
 
   -- ---- the call of `take_in`, to which the box goes at its own lifetime, share and name
   abbrev to-take : Face → Val → Take 𝓤 H A at-mem run .Ghost
@@ -150,7 +150,7 @@ module _ {M : Type 1} (𝓤 : URA M) (H : Heap 𝓤) (A : Atoms 𝓤) (W : Given
   abbrev Says : Face → Check → Lasts → Type 0
   Says p c zs = TakesIn (givenCheck c) (zs .0) h p
 
-  -- ---- the call of `check_status`
+  -- ---- the call of `answer::status`
   abbrev to-number : Check → Val → Number 𝓤 H A at-mem run .Ghost
   to-number c u = ((tt, tt, tt, (c, tt), (u ∷ [], tt)), tt)
 
@@ -169,7 +169,7 @@ module _ {M : Type 1} (𝓤 : URA M) (H : Heap 𝓤) (A : Atoms 𝓤) (W : Given
   abbrev Left : CaptionBox → SProp 𝓤
   Left d = ⋆ 𝓤 H A (‵ (fres γ (B.the-row .coded .code d)) ∷ ‵ (flft κ q) ∷ [])
 
-  exits : (zs : Lasts) (n : ℕ) → n < 2 ^ 8 → BoxTakes n (zs .0) h (facePoint x y) → ent 𝓤 (Left (zs .0)) (Post (vint w8 n))
+  exits : (zs : Lasts) (n : ℕ) → n < 2 ^ 8 → BoxTakes n (zs .0) h (face x y) → ent 𝓤 (Left (zs .0)) (Post (vint w8 n))
   exits zs n n-ok e =
       qed W (‵ (fres γ (B.the-row .coded .code (zs .0))) ∷ ‵ (flft κ q) ∷ []) ∵
       suffices ! _
@@ -192,7 +192,7 @@ module _ {M : Type 1} (𝓤 : URA M) (H : Heap 𝓤) (A : Atoms 𝓤) (W : Given
         calls-at ! fm (Point 𝓤 H A at-mem run) (known .0) to-point
         (and-then ! (load ! (from ! (stop !)) (look ! 9 refl)) (and-then ! (load ! (from ! (stop !)) (look ! 7 refl)) (no-more !))) (λ v.
         use1 W (later (some (λ (p : Face). (‵ ftrue ⊛ ‵ (P.the-row .own p (v ∷ []))) ⊛ raw (Pointed p)))) (id⊢ 𝓤 _) $ await ! tt $ pick ! (λ p.
-        split ! $ move ! (1 ∷ []) $ use1 W (raw (fact 𝓤 (p ≡ facePoint x y))) (point-gives p) $ heard ! (p ≡ facePoint x y) (λ at-point.
+        split ! $ move ! (1 ∷ []) $ use1 W (raw (fact 𝓤 (p ≡ face x y))) (point-gives p) $ heard ! (p ≡ face x y) (λ at-point.
         split ! $ move ! (1 ∷ []) $ peeks ! P.the-row (Is P.the-row) (shows 𝓤 H A P.the-row) p (v ∷ []) (λ p-is. drop ! $
         land ! (from ! (stop !)) (init ! 5 refl (LL.lawful P.the-type P′.the-laws 𝓤 H A W .typed p _ p-is .0)) $
         -- the box is given on
@@ -254,7 +254,7 @@ a5-box-take-spec 𝓤 H 𝓜 𝓖 𝓡 =
       (
         cited 𝓤 H (Take 𝓤 H (𝓖 .A) (𝓜 .mem) (𝓡 .run)) 𝓜 𝓡 code.env #take-in take-def.routine code.calls-caption-box·take-in
             (take-thm.met 𝓤 H 𝓜 𝓖 𝓡),
-        cited 𝓤 H (Number 𝓤 H (𝓖 .A) (𝓜 .mem) (𝓡 .run)) 𝓜 𝓡 code.env #check-status number-def.routine code.calls-exports-tools·boxes·check-status
+        cited 𝓤 H (Number 𝓤 H (𝓖 .A) (𝓜 .mem) (𝓡 .run)) 𝓜 𝓡 code.env #answer·status number-def.routine code.calls-answer·status
             (number-thm.met 𝓤 H 𝓜 𝓖 𝓡),
       ),
     ))

@@ -1,5 +1,5 @@
 -- `sheets::a5_sheet` meets its contract: a walk of its MIR, by hand. The window's borrow is copied, and the copy goes to `sheet::sheet` with the page,
--- which is given on for good; the answer goes to `sheet_status`. Of the two only the contracts are known. Assumes nothing.
+-- which is given on for good; the answer goes to `answer::status`. Of the two only the contracts are known. Assumes nothing.
 use mathlib.Core.Path.{_≡_, refl, _∙_, ap}
 use Prim.Native.Nat.{ℕ, _<_, _^_}
 use mathlib.Core.List.{[], _∷_, List}
@@ -39,23 +39,23 @@ use denote.Triple.Spec.{Meets, tripleOf}
 use denote.Triple.Table.{entered, cited}
 use denote.Triple.Walked.{says, Stays, stay-none-ref, gave-slice, walkOf, goes-none-ref, goes-gave-slice, Walks, ends-at, walked, walk-meets}
 use denote.Exit.{yes}
-use Rattle.answer.specs.Given.{Given as Gives}
+use Rattle.answer.specs.Given.{Given as Gives, status}
 use Rattle.window.specs.declared.Window.{Window}
 use Rattle.window.proofs.Window as T
-use Rattle.sheet.specs.Sheet.{givenSheet, SheetOf}
-use Rattle.sheet.specs.declared.SheetAnswer.{SheetAnswer}
-use Rattle.sheet.proofs.SheetAnswer as E
-use Rattle.sheet.proofs.SheetAnswer.Laws as E′
+use Rattle.sheet.specs.Sheet.{SheetOf}
+use Rattle.answer.specs.Answer.{givenCheck}
+use Rattle.answer.specs.declared.Check.{Check}
+use Rattle.answer.proofs.Check as E
+use Rattle.answer.proofs.Check.Laws as E′
+use Rattle.answer.proofs.status as number
+use Rattle.answer.proofs.status.Symbol as number-def
+use Rattle.answer.proofs.status.Symbol.{name as #answer·status}
+use Rattle.answer.proofs.status.Met as number-thm
 use Rattle.sheet.proofs.sheet as sheet
 use Rattle.sheet.proofs.sheet.Symbol as sheet-def
 use Rattle.sheet.proofs.sheet.Symbol.{name as #sheet·sheet}
 use Rattle.sheet.proofs.sheet.Met as sheet-thm
-use Rattle.exports_tools.specs.Status.{status}
 use Rattle.exports_tools.specs.Sheets.{SheetFor}
-use Rattle.exports_tools.proofs.sheets.sheet_status as number
-use Rattle.exports_tools.proofs.sheets.sheet_status.Symbol as number-def
-use Rattle.exports_tools.proofs.sheets.sheet_status.Symbol.{name as #exports-tools·sheets·sheet-status}
-use Rattle.exports_tools.proofs.sheets.sheet_status.Met as number-thm
 use Rattle.exports_tools.proofs.sheets.a5_sheet.Key.{name as #exports-tools·sheets·a5-sheet}
 use Rattle.exports_tools.proofs.sheets.a5_sheet as f
 use Rattle.exports_tools.proofs.sheets.a5_sheet.Statement as stated
@@ -68,8 +68,8 @@ Arg = RefT Window × (RefT (List ℕ) × Unit {0})
 abbrev stayed : Stays (f.ended .signature .params) (f.ended .kept)
 stayed = (stay-none-ref (0 ∷ []) tt (plain (λ _. T.the-row)) yes, (gave-slice (1 ∷ []) tt (plain (λ _. u8)), tt))
 
--- the contract, from those of `sheet` and `sheet_status`
-numbered : (counts p : List ℕ) (n : ℕ) (r : SheetAnswer) (q : List ℕ) → SheetOf counts p r q → n ≡ status (givenSheet r) → SheetFor counts p n q
+-- the contract, from those of `sheet` and `answer::status`
+numbered : (counts p : List ℕ) (n : ℕ) (r : Check) (q : List ℕ) → SheetOf counts p r q → n ≡ status (givenCheck r) → SheetFor counts p n q
 numbered counts p n r q e en = record { status = en ∙ ap (λ (g : Gives (Unit {0})). status g) (e .answer); page = e .page }
 
 module _ {M : Type 1} (𝓤 : URA M) (H : Heap 𝓤) (A : Atoms 𝓤) (at-mem : Memory → SProp 𝓤) (run : Routine → Fun 𝓤) where
@@ -81,7 +81,7 @@ module _ {M : Type 1} (𝓤 : URA M) (H : Heap 𝓤) (A : Atoms 𝓤) (at-mem : 
   Numbering = tripleOf 𝓤 H A number.signature (number.spec 𝓤 H A at-mem run)
 
   abbrev Known : Calls 𝓤 H → Type 1
-  Known C = Triple 𝓤 (C #sheet·sheet) Printing × Triple 𝓤 (C #exports-tools·sheets·sheet-status) Numbering
+  Known C = Triple 𝓤 (C #sheet·sheet) Printing × Triple 𝓤 (C #answer·status) Numbering
 
 -- the window h lies at b, o and is lent for κ under the name γ; the page p lies at b′, o′ and is lent for κ′ under the name γ′
 module _ {M : Type 1} (𝓤 : URA M) (H : Heap 𝓤) (A : Atoms 𝓤) (W : Given 𝓤 H A) (at-mem : Memory → SProp 𝓤) (run : Routine → Fun 𝓤)
@@ -122,7 +122,7 @@ module _ {M : Type 1} (𝓤 : URA M) (H : Heap 𝓤) (A : Atoms 𝓤) (W : Given
       qed W Lending ∵ nothing ! $ move ! (3 ∷ 0 ∷ []) $ fjoin ! $ move ! (2 ∷ 0 ∷ []) $ fjoin ! $
       move ! (1 ∷ 0 ∷ []) $ join ! $ frame ! $ nothing ! $ done !
 
-  abbrev Ensured : SheetAnswer → SProp 𝓤
+  abbrev Ensured : Check → SProp 𝓤
   Ensured r = ensured 𝓤 H A sheet.ended (sheet.clauses 𝓤 H A at-mem run) (κ, (κ′, tt)) a tt r
 
   -- the page's last list, what says it, and what the contract says of it
@@ -132,29 +132,29 @@ module _ {M : Type 1} (𝓤 : URA M) (H : Heap 𝓤) (A : Atoms 𝓤) (W : Given
   abbrev Lasts : Lists → Fml
   Lasts zs = lasts sheet.ended (κ, (κ′, tt)) a zs
 
-  abbrev Says : SheetAnswer → Lists → Type 0
+  abbrev Says : Check → Lists → Type 0
   Says r zs = SheetOf (h .counts) p r (zs .1 .0)
 
-  -- ---- the call of `sheet_status`
-  abbrev to-number : SheetAnswer → Val → Numbering 𝓤 H A at-mem run .Ghost
+  -- ---- the call of `answer::status`
+  abbrev to-number : Check → Val → Numbering 𝓤 H A at-mem run .Ghost
   to-number r v = ((tt, tt, tt, (r, tt), (v ∷ [], tt)), tt)
 
-  goes-number : (r : SheetAnswer) (v : Val) → Is E.the-row r (v ∷ []) → ent 𝓤 (emp 𝓤) (Numbering 𝓤 H A at-mem run .pre (to-number r v))
+  goes-number : (r : Check) (v : Val) → Is E.the-row r (v ∷ []) → ent 𝓤 (emp 𝓤) (Numbering 𝓤 H A at-mem run .pre (to-number r v))
   goes-number r v is =
       qed W [] ∵ nothing ! $ owned ! E.the-row (Is E.the-row) (LE.makes E.the-type E′.the-plain 𝓤 H A) r _ is $ fjoin ! $
       nothing ! $ join ! $ frame ! $ nothing ! $ done !
 
-  abbrev Numbered : SheetAnswer → ℕ → SProp 𝓤
+  abbrev Numbered : Check → ℕ → SProp 𝓤
   Numbered r n = ensured 𝓤 H A number.ended (number.clauses 𝓤 H A at-mem run) tt (r, tt) tt n
 
-  number-gives : (r : SheetAnswer) (n : ℕ) → ent 𝓤 (Numbered r n) (fact 𝓤 (n ≡ status (givenSheet r)))
-  number-gives r n = exE 𝓤 _ (λ ws. snd∗ 𝓤 (sem 𝓤 H A (lasts number.ended tt (r, tt) ws)) (fact 𝓤 (n ≡ status (givenSheet r))))
+  number-gives : (r : Check) (n : ℕ) → ent 𝓤 (Numbered r n) (fact 𝓤 (n ≡ status (givenCheck r)))
+  number-gives r n = exE 𝓤 _ (λ ws. snd∗ 𝓤 (sem 𝓤 H A (lasts number.ended tt (r, tt) ws)) (fact 𝓤 (n ≡ status (givenCheck r))))
 
   -- [both tokens; the window's borrow; what says the page's last list]
   abbrev Left : List ℕ → List (Item 𝓤)
   Left z = ‵ (flft κ q) ∷ ‵ (flft κ′ q₂) ∷ ‵ Lent ∷ ‵ (finally u8 γ′ z) ∷ []
 
-  exits : (r : SheetAnswer) (zs : Lists) (n : ℕ) → n < 2 ^ 8 → length (zs .1 .0) ≡ length p → Says r zs → n ≡ status (givenSheet r)
+  exits : (r : Check) (zs : Lists) (n : ℕ) → n < 2 ^ 8 → length (zs .1 .0) ≡ length p → Says r zs → n ≡ status (givenCheck r)
       → ent 𝓤 (⋆ 𝓤 H A (Left (zs .1 .0))) (Post (vint w8 n))
   exits r zs n n-ok len e en =
       qed W (Left (zs .1 .0)) ∵
@@ -182,7 +182,7 @@ module _ {M : Type 1} (𝓤 : URA M) (H : Heap 𝓤) (A : Atoms 𝓤) (W : Given
         move ! (16 ∷ 2 ∷ 0 ∷ []) $ group ! 3 $ use1 W (raw (Printing 𝓤 H A at-mem run .pre to-sheet)) goes-sheet $
         calls-at ! fm (Printing 𝓤 H A at-mem run) (known .0) to-sheet
         (and-then ! (load ! (from ! (stop !)) (look ! 11 refl)) (and-then ! (load ! (from ! (stop !)) (look ! 3 refl)) (no-more !))) (λ v.
-        use1 W (later (some (λ (r : SheetAnswer). ((‵ (flft κ q) ⊛ (‵ (flft κ′ q₂) ⊛ ‵ ftrue)) ⊛ ‵ (E.the-row .own r (v ∷ []))) ⊛ raw (Ensured r)))) (id⊢ 𝓤 _) $
+        use1 W (later (some (λ (r : Check). ((‵ (flft κ q) ⊛ (‵ (flft κ′ q₂) ⊛ ‵ ftrue)) ⊛ ‵ (E.the-row .own r (v ∷ []))) ⊛ raw (Ensured r)))) (id⊢ 𝓤 _) $
         await ! tt $ pick ! (λ r. split ! $ move ! (1 ∷ []) $
         use1 W (some (λ (zs : Lists). ‵ (Lasts zs) ⊛ raw (fact 𝓤 (Says r zs)))) (id⊢ 𝓤 _) $ pick ! (λ zs. split ! $ move ! (1 ∷ []) $
         heard ! (Says r zs) (λ e. fsplit ! $ move ! (1 ∷ []) $ fsplit ! $ fsplit ! $ move ! (1 ∷ []) $ feqL ! (λ len.
@@ -193,8 +193,8 @@ module _ {M : Type 1} (𝓤 : URA M) (H : Heap 𝓤) (A : Atoms 𝓤) (W : Given
         use0 W (raw (Numbering 𝓤 H A at-mem run .pre (to-number r v))) (goes-number r v is) $
         calls-at ! fm (Numbering 𝓤 H A at-mem run) (known .1) (to-number r v) (and-then ! (load ! (from ! (stop !)) (look ! 11 refl)) (no-more !)) (λ u.
         use1 W (later (some (λ (n : ℕ). (‵ ftrue ⊛ ‵ (u8 .own n (u ∷ []))) ⊛ raw (Numbered r n)))) (id⊢ 𝓤 _) $ await ! tt $
-        pick ! (λ n. split ! $ move ! (1 ∷ []) $ use1 W (raw (fact 𝓤 (n ≡ status (givenSheet r)))) (number-gives r n) $
-        heard ! (n ≡ status (givenSheet r)) (λ en. split ! $ move ! (1 ∷ []) $
+        pick ! (λ n. split ! $ move ! (1 ∷ []) $ use1 W (raw (fact 𝓤 (n ≡ status (givenCheck r)))) (number-gives r n) $
+        heard ! (n ≡ status (givenCheck r)) (λ en. split ! $ move ! (1 ∷ []) $
         peeks ! u8 (Is u8) (shows 𝓤 H A u8) n (u ∷ []) (λ isn. drop ! $
         land ! (from ! (stop !)) (init ! 17 refl (uint-lawful 𝓤 H A W w8 .typed n _ isn .0)) $
         rewrite ! 17 (λ (y : Val). ‵ (fat fullShare (tyInt w8) l₀ 0 y)) (ap only (isn .0)) refl $
@@ -230,8 +230,8 @@ unfolding code.routine tablesOf
 a5-sheet-spec 𝓤 H 𝓜 𝓖 𝓡 =
     let prints = cited 𝓤 H (Printing 𝓤 H (𝓖 .A) (𝓜 .mem) (𝓡 .run)) 𝓜 𝓡 code.env #sheet·sheet sheet-def.routine code.calls-sheet·sheet
     (sheet-thm.met 𝓤 H 𝓜 𝓖 𝓡) in
-    let numbers = cited 𝓤 H (Numbering 𝓤 H (𝓖 .A) (𝓜 .mem) (𝓡 .run)) 𝓜 𝓡 code.env #exports-tools·sheets·sheet-status number-def.routine
-    code.calls-exports-tools·sheets·sheet-status (number-thm.met 𝓤 H 𝓜 𝓖 𝓡) in
+    let numbers = cited 𝓤 H (Numbering 𝓤 H (𝓖 .A) (𝓜 .mem) (𝓡 .run)) 𝓜 𝓡 code.env #answer·status number-def.routine
+    code.calls-answer·status (number-thm.met 𝓤 H 𝓜 𝓖 𝓡) in
     entered 𝓤 H (tripleOf 𝓤 H (𝓖 .A) f.signature (f.spec 𝓤 H (𝓖 .A) (𝓜 .mem) (𝓡 .run)))
     (tables 𝓤 H 𝓜 𝓡 code.env .C) (tables 𝓤 H 𝓜 𝓡 code.env .Λ) #exports-tools·sheets·a5-sheet code.function (code.unfolded 𝓤 H 𝓜 𝓡)
     (meets 𝓤 H (𝓖 .A) (givenOf 𝓤 H 𝓜 𝓖) (𝓜 .mem) (𝓡 .run) (tablesOf 𝓤 H 𝓜 (tables 𝓤 H 𝓜 𝓡 code.env)) (prints, numbers))

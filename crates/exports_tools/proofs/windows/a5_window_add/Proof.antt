@@ -1,5 +1,5 @@
 -- `windows::a5_window_add` meets its contract: a walk of its MIR, by hand. The window is given on to `window::add` for good, and its answer goes to
--- `add_status`. Of the two only the contracts are known. Assumes nothing.
+-- `answer::status`. Of the two only the contracts are known. Assumes nothing.
 use mathlib.Core.Path.{_≡_, refl, _∙_, ap}
 use Prim.Native.Nat.{ℕ, _<_, _^_}
 use mathlib.Core.List.{[], _∷_, List}
@@ -36,23 +36,23 @@ use denote.Triple.Spec.{Meets, tripleOf}
 use denote.Triple.Table.{entered, cited}
 use denote.Triple.Walked.{says, Stays, gave-ref, stay-none, walkOf, goes-none, goes-gave-ref, Walks, ends-at, walked, walk-meets}
 use denote.Exit.{yes}
-use Rattle.answer.specs.Given.{Given as Gives}
-use Rattle.window.specs.declared.AddAnswer.{AddAnswer}
+use Rattle.answer.specs.Given.{Given as Gives, status}
+use Rattle.answer.specs.Answer.{givenCheck}
+use Rattle.answer.specs.declared.Check.{Check}
+use Rattle.answer.proofs.Check as E
+use Rattle.answer.proofs.Check.Laws as E′
+use Rattle.answer.proofs.status as number
+use Rattle.answer.proofs.status.Symbol as number-def
+use Rattle.answer.proofs.status.Symbol.{name as #answer·status}
+use Rattle.answer.proofs.status.Met as number-thm
 use Rattle.window.specs.declared.Window.{Window}
-use Rattle.window.specs.Addition.{givenAdd, AddedTo}
+use Rattle.window.specs.Addition.{AddedTo}
 use Rattle.window.proofs.Window as T
-use Rattle.window.proofs.AddAnswer as E
-use Rattle.window.proofs.AddAnswer.Laws as E′
 use Rattle.window.proofs.add as add
 use Rattle.window.proofs.add.Symbol as add-def
 use Rattle.window.proofs.add.Symbol.{name as #window·add}
 use Rattle.window.proofs.add.Met as add-thm
-use Rattle.exports_tools.specs.Status.{status}
 use Rattle.exports_tools.specs.Windows.{AddedFor}
-use Rattle.exports_tools.proofs.windows.add_status as number
-use Rattle.exports_tools.proofs.windows.add_status.Symbol as number-def
-use Rattle.exports_tools.proofs.windows.add_status.Symbol.{name as #exports-tools·windows·add-status}
-use Rattle.exports_tools.proofs.windows.add_status.Met as number-thm
 use Rattle.exports_tools.proofs.windows.a5_window_add.Key.{name as #exports-tools·windows·a5-window-add}
 use Rattle.exports_tools.proofs.windows.a5_window_add as f
 use Rattle.exports_tools.proofs.windows.a5_window_add.Statement as stated
@@ -65,8 +65,8 @@ Arg = RefT Window × (ℕ × (ℕ × Unit {0}))
 abbrev stayed : Stays (f.ended .signature .params) (f.ended .kept)
 stayed = (gave-ref (0 ∷ []) tt (plain (λ _. T.the-row)), (stay-none (λ _. u32) yes, (stay-none (λ _. u8) yes, tt)))
 
--- the contract, from those of `add` and `add_status`
-numbered : (w : Window) (m o n : ℕ) (r : AddAnswer) (v : Window) → AddedTo w m o r v → n ≡ status (givenAdd r) → AddedFor w m o n v
+-- the contract, from those of `add` and `answer::status`
+numbered : (w : Window) (m o n : ℕ) (r : Check) (v : Window) → AddedTo w m o r v → n ≡ status (givenCheck r) → AddedFor w m o n v
 numbered w m o n r v e en = record { status = en ∙ ap (λ (g : Gives (Unit {0})). status g) (e .answer); window = e .window }
 
 module _ {M : Type 1} (𝓤 : URA M) (H : Heap 𝓤) (A : Atoms 𝓤) (at-mem : Memory → SProp 𝓤) (run : Routine → Fun 𝓤) where
@@ -78,7 +78,7 @@ module _ {M : Type 1} (𝓤 : URA M) (H : Heap 𝓤) (A : Atoms 𝓤) (at-mem : 
   Numbering = tripleOf 𝓤 H A number.signature (number.spec 𝓤 H A at-mem run)
 
   abbrev Known : Calls 𝓤 H → Type 1
-  Known C = Triple 𝓤 (C #window·add) Adding × Triple 𝓤 (C #exports-tools·windows·add-status) Numbering
+  Known C = Triple 𝓤 (C #window·add) Adding × Triple 𝓤 (C #answer·status) Numbering
 
 -- the window h lies at b, o and is lent for κ under the name γ; m is the minute and k the origin
 module _ {M : Type 1} (𝓤 : URA M) (H : Heap 𝓤) (A : Atoms 𝓤) (W : Given 𝓤 H A) (at-mem : Memory → SProp 𝓤) (run : Routine → Fun 𝓤)
@@ -101,32 +101,32 @@ module _ {M : Type 1} (𝓤 : URA M) (H : Heap 𝓤) (A : Atoms 𝓤) (W : Given
   goes-add =
       qed W ((‵ (flft κ q) ⊛ ‵ ftrue) ∷ ‵ (owns (MutRef (named 0) κ T.the-row ∷ u32 ∷ u8 ∷ []) a at) ∷ []) ∵ join ! $ frame ! $ nothing ! $ done !
 
-  abbrev Ensured : AddAnswer → SProp 𝓤
+  abbrev Ensured : Check → SProp 𝓤
   Ensured r = ensured 𝓤 H A add.ended (add.clauses 𝓤 H A at-mem run) (κ, tt) a tt r
 
   -- the window's last value, and what the contract says of it
   abbrev Lasts : Type 0
   Lasts = Window × (Unit {0} × (Unit {0} × Unit {0}))
 
-  abbrev Says : AddAnswer → Lasts → Type 0
+  abbrev Says : Check → Lasts → Type 0
   Says r zs = AddedTo h m k r (zs .0)
 
-  -- ---- the call of `add_status`
-  abbrev to-number : AddAnswer → Val → Numbering 𝓤 H A at-mem run .Ghost
+  -- ---- the call of `answer::status`
+  abbrev to-number : Check → Val → Numbering 𝓤 H A at-mem run .Ghost
   to-number r v = ((tt, tt, tt, (r, tt), (v ∷ [], tt)), tt)
 
-  goes-number : (r : AddAnswer) (v : Val) → Is E.the-row r (v ∷ []) → ent 𝓤 (emp 𝓤) (Numbering 𝓤 H A at-mem run .pre (to-number r v))
+  goes-number : (r : Check) (v : Val) → Is E.the-row r (v ∷ []) → ent 𝓤 (emp 𝓤) (Numbering 𝓤 H A at-mem run .pre (to-number r v))
   goes-number r v is =
       qed W [] ∵ nothing ! $ owned ! E.the-row (Is E.the-row) (LE.makes E.the-type E′.the-plain 𝓤 H A) r _ is $ fjoin ! $
       nothing ! $ join ! $ frame ! $ nothing ! $ done !
 
-  abbrev Numbered : AddAnswer → ℕ → SProp 𝓤
+  abbrev Numbered : Check → ℕ → SProp 𝓤
   Numbered r n = ensured 𝓤 H A number.ended (number.clauses 𝓤 H A at-mem run) tt (r, tt) tt n
 
-  number-gives : (r : AddAnswer) (n : ℕ) → ent 𝓤 (Numbered r n) (fact 𝓤 (n ≡ status (givenAdd r)))
-  number-gives r n = exE 𝓤 _ (λ ws. snd∗ 𝓤 (sem 𝓤 H A (lasts number.ended tt (r, tt) ws)) (fact 𝓤 (n ≡ status (givenAdd r))))
+  number-gives : (r : Check) (n : ℕ) → ent 𝓤 (Numbered r n) (fact 𝓤 (n ≡ status (givenCheck r)))
+  number-gives r n = exE 𝓤 _ (λ ws. snd∗ 𝓤 (sem 𝓤 H A (lasts number.ended tt (r, tt) ws)) (fact 𝓤 (n ≡ status (givenCheck r))))
 
-  exits : (r : AddAnswer) (zs : Lasts) (n : ℕ) → n < 2 ^ 8 → Says r zs → n ≡ status (givenAdd r)
+  exits : (r : Check) (zs : Lasts) (n : ℕ) → n < 2 ^ 8 → Says r zs → n ≡ status (givenCheck r)
       → ent 𝓤 (⋆ 𝓤 H A (‵ (fres γ (T.the-row .coded .code (zs .0))) ∷ ‵ (flft κ q) ∷ [])) (Post (vint w8 n))
   exits r zs n n-ok e en =
       qed W (‵ (fres γ (T.the-row .coded .code (zs .0))) ∷ ‵ (flft κ q) ∷ []) ∵
@@ -151,7 +151,7 @@ module _ {M : Type 1} (𝓤 : URA M) (H : Heap 𝓤) (A : Atoms 𝓤) (W : Given
         calls-at ! fm (Adding 𝓤 H A at-mem run) (known .0) to-add
         (and-then ! (load ! (from ! (stop !)) (look ! 1 refl)) (and-then ! (load ! (from ! (stop !)) (look ! 7 refl))
         (and-then ! (load ! (from ! (stop !)) (look ! 5 refl)) (no-more !)))) (λ v.
-        use1 W (later (some (λ (r : AddAnswer). ((‵ (flft κ q) ⊛ ‵ ftrue) ⊛ ‵ (E.the-row .own r (v ∷ []))) ⊛ raw (Ensured r)))) (id⊢ 𝓤 _) $
+        use1 W (later (some (λ (r : Check). ((‵ (flft κ q) ⊛ ‵ ftrue) ⊛ ‵ (E.the-row .own r (v ∷ []))) ⊛ raw (Ensured r)))) (id⊢ 𝓤 _) $
         await ! tt $ pick ! (λ r. split ! $ move ! (1 ∷ []) $
         use1 W (some (λ (zs : Lasts). ‵ (lasts add.ended (κ, tt) a zs) ⊛ raw (fact 𝓤 (Says r zs)))) (id⊢ 𝓤 _) $ pick ! (λ zs. split ! $ move ! (1 ∷ []) $
         heard ! (Says r zs) (λ e. fsplit ! $ move ! (2 ∷ []) $ split ! $ move ! (1 ∷ []) $
@@ -161,8 +161,8 @@ module _ {M : Type 1} (𝓤 : URA M) (H : Heap 𝓤) (A : Atoms 𝓤) (W : Given
         use0 W (raw (Numbering 𝓤 H A at-mem run .pre (to-number r v))) (goes-number r v is) $
         calls-at ! fm (Numbering 𝓤 H A at-mem run) (known .1) (to-number r v) (and-then ! (load ! (from ! (stop !)) (look ! 6 refl)) (no-more !)) (λ u.
         use1 W (later (some (λ (n : ℕ). (‵ ftrue ⊛ ‵ (u8 .own n (u ∷ []))) ⊛ raw (Numbered r n)))) (id⊢ 𝓤 _) $ await ! tt $
-        pick ! (λ n. split ! $ move ! (1 ∷ []) $ use1 W (raw (fact 𝓤 (n ≡ status (givenAdd r)))) (number-gives r n) $
-        heard ! (n ≡ status (givenAdd r)) (λ en. split ! $ move ! (1 ∷ []) $
+        pick ! (λ n. split ! $ move ! (1 ∷ []) $ use1 W (raw (fact 𝓤 (n ≡ status (givenCheck r)))) (number-gives r n) $
+        heard ! (n ≡ status (givenCheck r)) (λ en. split ! $ move ! (1 ∷ []) $
         peeks ! u8 (Is u8) (shows 𝓤 H A u8) n (u ∷ []) (λ isn. drop ! $
         land ! (from ! (stop !)) (init ! 14 refl (uint-lawful 𝓤 H A W w8 .typed n _ isn .0)) $
         rewrite ! 14 (λ (y : Val). ‵ (fat fullShare (tyInt w8) l₀ 0 y)) (ap only (isn .0)) refl $
@@ -199,8 +199,8 @@ pub a5-window-add-spec : {M : Type 1} → stated.statement M
 unfolding code.routine tablesOf
 a5-window-add-spec 𝓤 H 𝓜 𝓖 𝓡 =
     let adds = cited 𝓤 H (Adding 𝓤 H (𝓖 .A) (𝓜 .mem) (𝓡 .run)) 𝓜 𝓡 code.env #window·add add-def.routine code.calls-window·add (add-thm.met 𝓤 H 𝓜 𝓖 𝓡) in
-    let numbers = cited 𝓤 H (Numbering 𝓤 H (𝓖 .A) (𝓜 .mem) (𝓡 .run)) 𝓜 𝓡 code.env #exports-tools·windows·add-status number-def.routine
-    code.calls-exports-tools·windows·add-status (number-thm.met 𝓤 H 𝓜 𝓖 𝓡) in
+    let numbers = cited 𝓤 H (Numbering 𝓤 H (𝓖 .A) (𝓜 .mem) (𝓡 .run)) 𝓜 𝓡 code.env #answer·status number-def.routine
+    code.calls-answer·status (number-thm.met 𝓤 H 𝓜 𝓖 𝓡) in
     entered 𝓤 H (tripleOf 𝓤 H (𝓖 .A) f.signature (f.spec 𝓤 H (𝓖 .A) (𝓜 .mem) (𝓡 .run)))
     (tables 𝓤 H 𝓜 𝓡 code.env .C) (tables 𝓤 H 𝓜 𝓡 code.env .Λ) #exports-tools·windows·a5-window-add code.function (code.unfolded 𝓤 H 𝓜 𝓡)
     (meets 𝓤 H (𝓖 .A) (givenOf 𝓤 H 𝓜 𝓖) (𝓜 .mem) (𝓡 .run) (tablesOf 𝓤 H 𝓜 (tables 𝓤 H 𝓜 𝓡 code.env)) (adds, numbers))

@@ -13,4 +13,6 @@ haversine-spec =
     (λ c κs. half-inside _ _ (c .before .pre .0 .0) (c .before .pre .1 .0))
     (λ c κs. c .before .before .pre .0 .1)
     (λ c κs. c .before .before .before .pre .1 .1)
-    (λ c. rw (c .sin-inside4 .ensures, c .before .sin-inside3 .ensures, c .before .before .sin-inside2 .ensures, c .before .before .before .sin-inside .ensures)))
+    (λ c.
+    let second = c .before .before in
+    rw (c .sin-inside4 .ensures, c .before .sin-inside3 .ensures, second .sin-inside2 .ensures, second .before .sin-inside .ensures)))

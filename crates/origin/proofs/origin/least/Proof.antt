@@ -1,4 +1,5 @@
--- `origin::least` meets its contract. The loop's invariant: what is left, from here, gives the least of the whole. Assumes nothing.
+-- `origin::least` meets its contract. The loop's invariant: what is left, from here, gives the least of the whole; its measure: how many
+-- distances are left. Assumes nothing.
 use mathlib.Core.Path.{_≡_, refl, sym, _∙_}
 use mathlib.Core.Logic.{⊎-elim}
 use Prim.Native.Nat.{_≤_, _<_, _-_}
@@ -28,8 +29,9 @@ loop-holds c = (omega arith, refl)
 
 loop-again : tie.Need-loop-again Inv-loop μ-loop
 loop-again c =
-    let v = c .before .before .before .loop in
-    let s = c .before .before .before .before in
+    let turn = c .before .before .before in
+    let v = turn .loop in
+    let s = turn .before in
     let hs = s .args .distances .now in
     let h : v .i < length hs = omega (arith, s .pre) in (
       omega arith,

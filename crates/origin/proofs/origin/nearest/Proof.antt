@@ -12,7 +12,9 @@ unfolding nearestGiven
 returns c = simp (← (c .before .before .before .check-spherical .ensures), c .before .check .given .1)
 
 find-nearest-origin-requires : tie.Need-find-nearest-origin-requires
-find-nearest-origin-requires c κs = passed-inside (c .before .before .before .args .point) (sym (c .before .before .check-spherical .ensures) ∙ ap givenCheck (c .enum-told .given .1))
+find-nearest-origin-requires c κs =
+    let checked = c .before .before in
+    passed-inside (checked .before .args .point) (sym (checked .check-spherical .ensures) ∙ ap givenCheck (c .enum-told .given .1))
 
 returns-2 : tie.Need-returns-2
 unfolding nearestGiven

@@ -5,4 +5,4 @@ use Rattle.origin.proofs.quaternion.transform_quat.Tie as tie
 
 pub transform-quat-spec : {M : Type 1} → statement M
 unfolding transformQuat
-transform-quat-spec = tie.close (tie.spec (λ c κs. tt) (λ c. rw (c .before .before .before .before .before .before .before .before .before .before .before .before .before .before .before .before .before .before .before .before .before .before .before .before .quat-conjugate .ensures)))
+transform-quat-spec = tie.close (tie.spec (λ c κs. tt) (λ c. rw (c .quat-conjugate .ensures)))

@@ -1,4 +1,5 @@
--- `numbers::unlike` meets its contract. The loop's invariant: while none is counted, each number that was passed is the wanted one. Assumes nothing.
+-- `numbers::unlike` meets its contract. The loop's invariant: while none is counted, each number that was passed is the wanted one; its
+-- measure: how many numbers are left. Assumes nothing.
 use Prim.Native.Nat.{ℕ, _+_, _≤_, _<_, _-_}
 use mathlib.Core.Path.{_≡_, sym, _∙_}
 use mathlib.Core.Logic.{⊎-elim}
@@ -25,10 +26,13 @@ loop-holds c = (omega arith, c .before .lacks .ensures (c .if1 .left), omega ari
 
 loop-again : tie.Need-loop-again Inv-loop μ-loop
 loop-again c =
-    let told = c .before .before .before .before .before .before .loop .inv in
+    let read = c .before .before .before in
+    let told = read .before .before .before .loop .inv in
     ⊎-elim
     (λ w. (omega arith, omega arith, omega arith, λ e k h. absurd (omega (arith, e, w .1))))
-    (λ w. (omega arith, omega arith, omega arith, λ e. below-more _ _ (told .3 (omega (arith, e, w .1))) (sym (c .before .before .before .bits .ensures) ∙ w .0 .left ∙ c .before .bits2 .ensures)))
+    (λ w.
+    let alike = sym (read .bits .ensures) ∙ w .0 .left ∙ c .before .bits2 .ensures in
+    (omega arith, omega arith, omega arith, λ e. below-more _ _ (told .3 (omega (arith, e, w .1))) alike))
     (c .if2 .came)
 
 returns-2 : tie.Need-returns-2 Inv-loop μ-loop

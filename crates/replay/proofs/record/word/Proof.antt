@@ -14,4 +14,15 @@ unfolding wordAt
 returns-2 c = rw (le-ltb _ _ (c .before .before .if1 .left), wordAt) (rw (c .before .four .ensures .0, c .four2 .ensures .0))
 
 pub word-spec : {M : Type 1} → statement M
-word-spec = tie.close (tie.spec returns (λ c. search needs) (λ c κs. search needs) (λ c. search needs) (λ c. search needs) (λ c. search needs) (λ c κs. search needs) (λ c. search needs) returns-2)
+word-spec =
+    tie.close
+    (tie.spec
+    returns
+    (λ c. search needs)
+    (λ c κs. search needs)
+    (λ c. search needs)
+    (λ c. search needs)
+    (λ c. search needs)
+    (λ c κs. search needs)
+    (λ c. search needs)
+    returns-2)

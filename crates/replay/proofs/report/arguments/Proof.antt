@@ -1,4 +1,4 @@
--- `report::arguments` is safe and ends: each place is below the count. Assumes nothing.
+-- `report::arguments` is safe and ends. The loop's invariant: the place is at most the count; its measure: how many places are left. Assumes nothing.
 use Prim.Native.Nat.{_≤_, _-_}
 use borrow.Author.Needs.{needs}
 use Rattle.replay.proofs.report.arguments.Statement.{statement}

@@ -1,4 +1,4 @@
--- `report::name` is safe and ends: each index is below the length. Assumes nothing.
+-- `report::name` is safe and ends. The loop's invariant: the index is at most the length; its measure: how many bytes are left. Assumes nothing.
 use Prim.Native.Nat.{_≤_, _-_}
 use lib.ListN.{length}
 use borrow.Author.Needs.{needs}

@@ -21,16 +21,35 @@ returns c = let beyond = lt-ltb _ _ (c .if1 .taken) in (rw (beyond, within), rw 
 returns-2 : tie.Need-returns-2
 unfolding within
 returns-2 c =
-    let counts = le-ltb _ _ (c .before .before .before .before .before .if1 .left) in
-    (rw (counts, within) (c .before .before .count .ensures), rw (counts, within) (decided _ true _ _ (ap (same _) (sym (c .before .before .before .before .stored .ensures)) ∙ sym (c .before .agree .ensures) ∙ c .if2 .taken)))
+    let compared = c .before .before in
+    let read = compared .before .before in
+    let counts = le-ltb _ _ (read .before .if1 .left) in
+    let same-as-stored = ap (same _) (sym (read .stored .ensures)) ∙ sym (c .before .agree .ensures) ∙ c .if2 .taken in
+    (rw (counts, within) (compared .count .ensures), rw (counts, within) (decided _ true _ _ same-as-stored))
 
 returns-3 : tie.Need-returns-3
 unfolding within
 returns-3 c =
-    let counts = le-ltb _ _ (c .before .before .before .before .before .before .before .before .before .if1 .left) in (
-      rw (counts, within) (c .before .before .before .before .before .before .count .ensures),
-      rw (counts, within) (c .count2 .ensures ∙ decided _ false _ _ (ap (same _) (sym (c .before .before .before .before .before .before .before .before .stored .ensures)) ∙ sym (c .before .before .before .before .before .agree .ensures) ∙ c .before .before .before .before .if2 .left)),
-    )
+    let shown = c .before .before in
+    let unlike = shown .before .before in
+    let compared = unlike .before .before in
+    let read = compared .before .before in
+    let counts = le-ltb _ _ (read .before .if1 .left) in
+    let not-as-stored = ap (same _) (sym (read .stored .ensures)) ∙ sym (unlike .before .agree .ensures) ∙ unlike .if2 .left in
+    (rw (counts, within) (compared .count .ensures), rw (counts, within) (c .count2 .ensures ∙ decided _ false _ _ not-as-stored))
 
 pub compare-spec : {M : Type 1} → statement M
-compare-spec = tie.close (tie.spec (λ c. search needs) returns (λ c κs. search needs) (λ c κs. search needs) (λ c κs. search needs) returns-2 (λ c. search needs) (λ c. search needs) (λ c κs. search needs) (λ c κs. search needs) returns-3)
+compare-spec =
+    tie.close
+    (tie.spec
+    (λ c. search needs)
+    returns
+    (λ c κs. search needs)
+    (λ c κs. search needs)
+    (λ c κs. search needs)
+    returns-2
+    (λ c. search needs)
+    (λ c. search needs)
+    (λ c κs. search needs)
+    (λ c κs. search needs)
+    returns-3)

@@ -89,7 +89,8 @@ abbrev Pairs : Check → CaptionBox → Outcome → Type 0
 Pairs c z r = (r .check ≡ c) × (r .caption ≡ z)
 
 -- together they are the contract
-takes-in : (h : CaptionBox) (p : Face) (c : Check) (zs : Lasts) (r : Outcome) → Says h p c zs → Pairs c (zs .0) r → TakesIn (givenCheck (r .check)) (r .caption) h p
+takes-in : (h : CaptionBox) (p : Face) (c : Check) (zs : Lasts) (r : Outcome) → Says h p c zs → Pairs c (zs .0) r
+    → TakesIn (givenCheck (r .check)) (r .caption) h p
 takes-in h p c zs r e o = record { answer = ap givenCheck (o .0) ∙ e .answer; box = o .1 ∙ e .box }
 
 module _ {M : Type 1} (𝓤 : URA M) (H : Heap 𝓤) (A : Atoms 𝓤) (at-mem : Memory → SProp 𝓤) (run : Routine → Fun 𝓤) where
@@ -166,12 +167,14 @@ module _ {M : Type 1} (𝓤 : URA M) (H : Heap 𝓤) (A : Atoms 𝓤) (W : Given
         pass1 ! (init ! 10 refl (LL.lawful B.the-type B′.the-laws 𝓤 H A W .typed h _ h-is .0)) $
         pass1 ! (init ! 8 refl (LL.lawful P.the-type P′.the-laws 𝓤 H A W .typed p _ p-is .0)) $ pass0 ! $
         -- a copy of the box is lent
-        assigns ! (of-opd ! (load ! (from ! (stop !)) (look ! 10 refl))) (from ! (stop !)) (init ! 6 refl (LL.lawful B.the-type B′.the-laws 𝓤 H A W .typed h _ h-is .0)) $
+        assigns ! (of-opd ! (load ! (from ! (stop !)) (look ! 10 refl))) (from ! (stop !))
+        (init ! 6 refl (LL.lawful B.the-type B′.the-laws 𝓤 H A W .typed h _ h-is .0)) $
         assigns ! (addr ! (from ! (stop !))) (from ! (stop !)) (init ! 2 refl (tt, tt)) $
         owned ! B.the-row (Is B.the-row) (LL.makes B.the-type B′.the-plain 𝓤 H A) h _ h-is $
         move ! (7 ∷ 0 ∷ []) $ use2 W (‵ (partAt B.the-row fullShare h l₃ 0)) (part-in-at 𝓤 H A W B.the-row refl fullShare h l₃ 0 B′.mir refl (B′.lowered h)) $
         lft-new ! tt (λ ν. move ! (1 ∷ []) $
-        use1 W (later (some (λ (δ : GName). ‵ (MutRef (named 0) (ν ∷ []) B.the-row .own (box l₃ δ) (vptr l₃ 0 ∷ [])) ⊛ ‵ (flent (ν ∷ []) (Body (mem B.the-row) l₃ 0 δ)))))
+        use1 W (later (some (λ (δ : GName).
+        ‵ (MutRef (named 0) (ν ∷ []) B.the-row .own (box l₃ δ) (vptr l₃ 0 ∷ [])) ⊛ ‵ (flent (ν ∷ []) (Body (mem B.the-row) l₃ 0 δ)))))
         (lends-ref 𝓤 H A W B.the-row (named 0) (ν ∷ []) h l₃ 0) $ await ! tt $ pick ! (λ δ.
         split ! $ move ! (2 ∷ 0 ∷ []) $ use2 W (raw (Take 𝓤 H A at-mem run .pre (to-take l₃ ν δ))) (goes-take l₃ ν δ) $
         calls-at ! fm (Take 𝓤 H A at-mem run) (known .0) (to-take l₃ ν δ)
@@ -184,11 +187,13 @@ module _ {M : Type 1} (𝓤 : URA M) (H : Heap 𝓤) (A : Atoms 𝓤) (W : Given
         move ! (2 ∷ []) $ split ! $ move ! (1 ∷ []) $ peeks ! E.the-row (Is E.the-row) (shows 𝓤 H A E.the-row) c (u ∷ []) (λ c-is. drop ! $
         land ! (from ! (stop !)) (init ! 8 refl (LE.lawful E.the-type E′.the-laws 𝓤 H A W tt .typed c _ c-is .0)) $
         -- the lifetime is ended, and the local holds the box's last value
-        split ! $ lft-end ! tt $ move ! (0 ∷ 4 ∷ 2 ∷ []) $ use3 W (later (‵ (partAt B.the-row fullShare (zs .0) l₃ 0))) (ref-back 𝓤 H A W B.the-row (ν ∷ []) δ (zs .0) l₃ 0) $ await ! tt $
+        split ! $ lft-end ! tt $ move ! (0 ∷ 4 ∷ 2 ∷ []) $
+        use3 W (later (‵ (partAt B.the-row fullShare (zs .0) l₃ 0))) (ref-back 𝓤 H A W B.the-row (ν ∷ []) δ (zs .0) l₃ 0) $ await ! tt $
         use1 W (some (λ (v : Val). ‵ (fat fullShare B′.mir l₃ 0 v) ⊛ ‵ (B.the-row .own (zs .0) (v ∷ []))))
         (part-out-at 𝓤 H A W B.the-row refl fullShare (zs .0) l₃ 0 B′.mir refl) $ pick ! (λ v.
         split ! $ move ! (1 ∷ []) $ peeks ! B.the-row (Is B.the-row) (shows 𝓤 H A B.the-row) (zs .0) (v ∷ []) (λ z-is. drop ! $
-        assigns ! (of-opd ! (load ! (from ! (stop !)) (look ! 0 refl))) (from ! (stop !)) (init ! 3 refl (LL.lawful B.the-type B′.the-laws 𝓤 H A W .typed (zs .0) _ z-is .0)) $
+        assigns ! (of-opd ! (load ! (from ! (stop !)) (look ! 0 refl))) (from ! (stop !))
+        (init ! 3 refl (LL.lawful B.the-type B′.the-laws 𝓤 H A W .typed (zs .0) _ z-is .0)) $
         -- the check and the box together
         use0 W (raw (Pair 𝓤 H A at-mem run .pre (to-pair c u (zs .0) v))) (goes-pair c u (zs .0) v c-is z-is) $
         calls-at ! fm (Pair 𝓤 H A at-mem run) (known .1) (to-pair c u (zs .0) v)

@@ -1,4 +1,5 @@
--- `numbers::copy` is safe and ends: the numbers that it reads and writes are there. Assumes nothing.
+-- `numbers::copy` is safe and ends. The loop's invariant: the numbers that it reads and writes are there, and the buffer keeps its length; its
+-- measure: how many are left. Assumes nothing.
 use mathlib.Core.Path.{_≡_, refl}
 use Prim.Native.Nat.{_+_, _≤_, _-_}
 use native.Mathlib.Omega.{arith}
@@ -15,7 +16,9 @@ abbrev μ-loop : tie.MeasureT-loop
 μ-loop buffer₀ from to count i₀ buffer i = count - i
 
 loop-holds : tie.Need-loop-holds Inv-loop μ-loop
-loop-holds c = (omega arith, c .before .before .before .before .lacks .ensures (c .before .before .before .if1 .left), c .before .lacks2 .ensures (c .if2 .left), refl)
+loop-holds c =
+    let room = c .before .before .before in
+    (omega arith, room .before .lacks .ensures (room .if1 .left), c .before .lacks2 .ensures (c .if2 .left), refl)
 
 loop-again : tie.Need-loop-again Inv-loop μ-loop
 loop-again c = (omega arith, omega arith, omega arith, simp length-set (c .before .before .loop .inv .3))

@@ -1,4 +1,5 @@
--- `numbers::fill` is safe and ends: the numbers that it writes are there. Assumes nothing.
+-- `numbers::fill` is safe and ends. The loop's invariant: the numbers that it writes are there, and the buffer keeps its length; its measure: how
+-- many are left. Assumes nothing.
 use mathlib.Core.Path.{_≡_, refl}
 use Prim.Native.Nat.{_+_, _≤_, _-_}
 use native.Mathlib.Omega.{arith}

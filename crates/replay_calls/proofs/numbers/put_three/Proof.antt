@@ -25,15 +25,18 @@ slice-write-buffer-2 : tie.Need-slice-write-buffer-2
 slice-write-buffer-2 c = simp length-set (omega (arith, c .before .before .before .lacks .ensures (c .before .before .if1 .left)))
 
 add-buffer-2 : tie.Need-add-buffer-2
-add-buffer-2 c = omega (arith, c .before .before .before .before .lacks .ensures (c .before .before .before .if1 .left))
+add-buffer-2 c = let room = c .before .before .before in omega (arith, room .before .lacks .ensures (room .if1 .left))
 
 mul-buffer-3 : tie.Need-mul-buffer-3
 mul-buffer-3 c =
-    let fits = c .before .before .before .before .lacks .ensures (c .before .before .before .if1 .left) in
+    let room = c .before .before .before in
+    let fits = room .before .lacks .ensures (room .if1 .left) in
     search needs
 
 slice-write-buffer-3 : tie.Need-slice-write-buffer-3
-slice-write-buffer-3 c = simp length-set (omega (arith, c .before .before .before .before .lacks .ensures (c .before .before .before .if1 .left)))
+slice-write-buffer-3 c =
+    let room = c .before .before .before in
+    simp length-set (omega (arith, room .before .lacks .ensures (room .if1 .left)))
 
 pub put-three-spec : {M : Type 1} → statement M
 put-three-spec =

@@ -1,4 +1,4 @@
--- `stores::clear` is safe and ends: the store keeps its length. Assumes nothing.
+-- `stores::clear` is safe and ends. The loop's invariant: the store keeps its length; its measure: how many numbers are left. Assumes nothing.
 use Prim.Native.Nat.{_≤_, _-_}
 use mathlib.Core.Path.{_≡_}
 use lib.ListN.{length}

@@ -1,4 +1,4 @@
--- `stores::gather` is safe and ends: both stores keep their length. Assumes nothing.
+-- `stores::gather` is safe and ends. The loop's invariant: both stores keep their length; its measure: how many numbers are left. Assumes nothing.
 use Prim.Native.Nat.{_≤_, _-_}
 use mathlib.Core.Path.{_≡_}
 use lib.ListN.{length}

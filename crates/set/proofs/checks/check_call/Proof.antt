@@ -4,10 +4,10 @@ use Rattle.set.proofs.checks.check_call.Statement.{statement}
 use Rattle.set.proofs.checks.check_call.Tie as tie
 
 returns : tie.Need-returns
-returns c = simp (← (c .before .before .before .check-set .ensures), c .before .set .given .1)
-
-returns-2 : tie.Need-returns-2
-returns-2 c = simp (← (c .before .before .before .check-set .ensures), c .before .enum-told .given .1) (c .check-origin .ensures)
+returns c =
+    let origin = c .before .check-origin in
+    let set = c .before .before .check-set in
+    simp (c .first-refusal .ensures, set .ensures, origin .ensures)
 
 pub check-call-spec : {M : Type 1} → statement M
-check-call-spec = tie.close (tie.spec (λ c κs. search needs) (λ c. search needs) returns (λ c. search needs) (λ c κs. search needs) returns-2)
+check-call-spec = tie.close (tie.spec (λ c κs. search needs) (λ c κs. search needs) (λ c κs. search needs) returns)

@@ -1,4 +1,5 @@
--- `open::clear` meets its contract. The loop's invariant: the first i numbers are +0.0, the others as they were. Assumes nothing.
+-- `open::clear` meets its contract. The loop's invariant: the first i numbers are +0.0, the others as they were. The measure is
+-- what is left of the store. Assumes nothing.
 use mathlib.Core.Path.{_≡_, refl, _∙_}
 use Prim.Native.Nat.{_≤_, _-_, zero-le}
 use native.Mathlib.Omega.{arith}
@@ -22,12 +23,15 @@ loop-holds c = (zero-le, refl, refl)
 loop-again : tie.Need-loop-again Inv-loop μ-loop
 unfolding ofBits
 loop-again c =
-    (omega arith, simp length-set (c .before .loop .inv .1), rw (c .before .loop .inv .2) (store-same (c .before .before .args .store .now) (c .before .loop .i) 0·0 (omega arith)))
+    let head = c .before .loop in
+    let store = c .before .before .args .store .now in
+    (omega arith, simp length-set (head .inv .1), rw (head .inv .2) (store-same store (head .i) 0·0 (omega arith)))
 
 returns : tie.Need-returns Inv-loop μ-loop
 returns c =
+    let head = c .before .loop in
     let store = c .before .before .args .store .now in
-    c .before .loop .inv .2 ∙ all-stored (replicate (length store) 0·0) store (c .before .loop .i) (simp length-replicate (omega arith)) (omega arith)
+    head .inv .2 ∙ all-stored (replicate (length store) 0·0) store (head .i) (simp length-replicate (omega arith)) (omega arith)
 
 pub clear-spec : {M : Type 1} → statement M
 clear-spec =

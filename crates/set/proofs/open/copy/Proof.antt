@@ -1,4 +1,5 @@
--- `open::copy` meets its contract. The loop's invariant: the first i numbers are copied, the others as they were. Assumes nothing.
+-- `open::copy` meets its contract. The loop's invariant: the first i numbers are copied, the others as they were. The measure is
+-- what is left of the buffer. Assumes nothing.
 use mathlib.Core.Path.{_≡_, refl, _∙_}
 use Prim.Native.Nat.{_≤_, _-_, zero-le}
 use native.Mathlib.Omega.{arith}
@@ -20,11 +21,16 @@ loop-holds c = (zero-le, refl, refl)
 
 loop-again : tie.Need-loop-again Inv-loop μ-loop
 loop-again c =
+    let head = c .before .before .loop in
     let a = c .before .before .before .args in
-    (omega arith, simp length-set (c .before .before .loop .inv .1), rw (c .before .before .loop .inv .2) (store (a .from .now) (a .to .now) (c .before .before .loop .i) nan (omega arith) (omega arith)))
+    let copied = store (a .from .now) (a .to .now) (head .i) nan (omega arith) (omega arith) in
+    (omega arith, simp length-set (head .inv .1), rw (head .inv .2) copied)
 
 returns : tie.Need-returns Inv-loop μ-loop
-returns c = c .before .loop .inv .2 ∙ all-stored (c .before .before .args .from .now) (c .before .before .args .to .now) (c .before .loop .i) (omega arith) (omega arith)
+returns c =
+    let head = c .before .loop in
+    let a = c .before .before .args in
+    head .inv .2 ∙ all-stored (a .from .now) (a .to .now) (head .i) (omega arith) (omega arith)
 
 pub copy-spec : {M : Type 1} → statement M
 copy-spec =

@@ -15,13 +15,28 @@ use Rattle.stores.proofs.slots.store_face.Tie as tie
 returns : tie.Need-returns
 unfolding ofBits
 returns c =
-    let a = c .before .before .before .before .before .args in
-    put-marked (a .store .now) (a .at) (a .at + 7) 1·0 _ (faceRun (a .t)) (omega arith) (c .before .before .write-face .ensures) (omega arith)
+    let written = c .before .before in
+    let a = written .before .before .before .args in
+    put-marked (a .store .now) (a .at) (a .at + 7) 1·0 _ (faceRun (a .t)) (omega arith) (written .write-face .ensures) (omega arith)
 
 same-length : tie.Need-same-length
 same-length c =
-    let a = c .before .before .before .before .before .args in
+    let written = c .before .before in
+    let a = written .before .before .before .args in
     ap length (returns c) ∙ length-put (a .store .now) (a .at) (1·0 ∷ faceRun (a .t)) (omega arith)
 
 pub store-face-spec : {M : Type 1} → statement M
-store-face-spec = tie.close (tie.spec (λ c. search needs) (λ c. search needs) (λ c. search needs) (λ c. search needs) (λ c. search needs) (λ c. search needs) (λ c. search needs) (λ c. search needs) (λ c κs. search needs) same-length returns)
+store-face-spec =
+    tie.close
+    (tie.spec
+    (λ c. search needs)
+    (λ c. search needs)
+    (λ c. search needs)
+    (λ c. search needs)
+    (λ c. search needs)
+    (λ c. search needs)
+    (λ c. search needs)
+    (λ c. search needs)
+    (λ c κs. search needs)
+    same-length
+    returns)

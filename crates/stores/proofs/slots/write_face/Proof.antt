@@ -10,4 +10,14 @@ returns : tie.Need-returns
 returns c = sets-whole (faceRun (c .args .t)) (c .args .run .now) (c .pre)
 
 pub write-face-spec : {M : Type 1} → statement M
-write-face-spec = tie.close (tie.spec (λ c. omega arith) (λ c. simp length-set (omega arith)) (λ c. simp length-set (omega arith)) (λ c. simp length-set (omega arith)) (λ c. simp length-set (omega arith)) (λ c. simp length-set (omega arith)) (λ c. simp length-set) returns)
+write-face-spec =
+    tie.close
+    (tie.spec
+    (λ c. omega arith)
+    (λ c. simp length-set (omega arith))
+    (λ c. simp length-set (omega arith))
+    (λ c. simp length-set (omega arith))
+    (λ c. simp length-set (omega arith))
+    (λ c. simp length-set (omega arith))
+    (λ c. simp length-set)
+    returns)

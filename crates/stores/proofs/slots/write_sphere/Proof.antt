@@ -10,4 +10,17 @@ returns : tie.Need-returns
 returns c = sets-whole (sphereRun (c .args .t)) (c .args .run .now) (c .pre)
 
 pub write-sphere-spec : {M : Type 1} → statement M
-write-sphere-spec = tie.close (tie.spec (λ c. omega arith) (λ c. simp length-set (omega arith)) (λ c. simp length-set (omega arith)) (λ c. simp length-set (omega arith)) (λ c. simp length-set (omega arith)) (λ c. simp length-set (omega arith)) (λ c. simp length-set (omega arith)) (λ c. simp length-set (omega arith)) (λ c. simp length-set (omega arith)) (λ c. simp length-set) returns)
+write-sphere-spec =
+    tie.close
+    (tie.spec
+    (λ c. omega arith)
+    (λ c. simp length-set (omega arith))
+    (λ c. simp length-set (omega arith))
+    (λ c. simp length-set (omega arith))
+    (λ c. simp length-set (omega arith))
+    (λ c. simp length-set (omega arith))
+    (λ c. simp length-set (omega arith))
+    (λ c. simp length-set (omega arith))
+    (λ c. simp length-set (omega arith))
+    (λ c. simp length-set)
+    returns)

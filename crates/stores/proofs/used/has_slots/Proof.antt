@@ -1,24 +1,27 @@
 -- `used::has_slots` meets its contract. Assumes nothing.
-use borrow.Author.Tests.{eq-eqb, ne-eqb, lt-ltb, le-ltb}
-use Rattle.stores.specs.Used.{hasSlots}
+use mathlib.Core.Path.{sym, ap, _∙_}
+use borrow.Author.Needs.{needs}
+use Rattle.answer.specs.Answer.{givenCheck}
+use Rattle.stores.proofs.Within.{set-refuses, set-passes}
 use Rattle.stores.proofs.used.has_slots.Statement.{statement}
 use Rattle.stores.proofs.used.has_slots.Tie as tie
 
 returns : tie.Need-returns
-unfolding hasSlots
-returns c = rw (eq-eqb _ _ (c .before .before .if1 .taken), eq-eqb _ _ (c .before .if2 .taken), lt-ltb _ _ (c .if3 .taken))
+returns c =
+    let checked = c .before .before in
+    let known = checked .before .before in
+    let used = known .before .before .args .used in
+    let refused = sym (checked .check-call .ensures) ∙ ap givenCheck (c .enum-told .given .1) in
+    sym (set-refuses _ used _ refused)
 
 returns-2 : tie.Need-returns-2
-unfolding hasSlots
-returns-2 c = rw (eq-eqb _ _ (c .before .before .if1 .taken), eq-eqb _ _ (c .before .if2 .taken), le-ltb _ _ (c .if3 .left))
-
-returns-3 : tie.Need-returns-3
-unfolding hasSlots
-returns-3 c = rw (eq-eqb _ _ (c .before .if1 .taken), ne-eqb _ _ (c .if2 .left))
-
-returns-4 : tie.Need-returns-4
-unfolding hasSlots
-returns-4 c = rw (ne-eqb _ _ (c .if1 .left))
+returns-2 c =
+    let told = c .before in
+    let checked = told .before .before in
+    let known = checked .before .before in
+    let used = known .before .before .args .used in
+    let passed = sym (checked .check-call .ensures) ∙ ap givenCheck (told .enum-told2 .given .1) in
+    sym (set-passes _ used passed)
 
 pub has-slots-spec : {M : Type 1} → statement M
-has-slots-spec = tie.close (tie.spec returns returns-2 returns-3 returns-4)
+has-slots-spec = tie.close (tie.spec (λ c κs. search needs) (λ c. search needs) returns (λ c. search needs) returns-2)

@@ -1,21 +1,40 @@
--- `answers::answer_unplace` meets its contract. Assumes nothing.
+-- `answers::answer_unplace` meets its contract: the line of what the call gave, on the set that it left. Assumes nothing.
 use mathlib.Core.Path.{sym, ap, _∙_}
 use borrow.Author.Needs.{needs}
 use Rattle.coordinates.specs.Conversions.{givenLonLat}
+use Rattle.strike_records.specs.Line.{lonLatLine, refusalLine}
+use Rattle.strike_records.specs.Session.{lineOf}
+use Rattle.strike_records.proofs.Written.{writes-as}
 use Rattle.strike_records.proofs.answers.answer_unplace.Statement.{statement}
 use Rattle.strike_records.proofs.answers.answer_unplace.Tie as tie
 
 returns : tie.Need-returns
 returns c =
-    let call = c .before .before .before .before .before .before .before .before .before .before .before .unplace .ensures in
-    let wrote = c .before .before .write-lon-lat .ensures in
-    rw (sym (call .0) ∙ ap givenLonLat (c .before .before .before .before .before .l .given .1)) (record { end-is = wrote .0; out-is = wrote .1; face-is = call .1 .0; sphere-is = call .1 .1 })
+    let at-write-lon-lat = c .before .before in
+    let at-l = at-write-lon-lat .before .before .before in
+    let at-sphere-store = at-l .before .before .before in
+    let at-unplace = at-sphere-store .before .before .before in
+    let call = at-unplace .unplace .ensures in
+    let answer = sym (call .answer) ∙ ap givenLonLat (at-l .l .given .1) in
+    record {
+      lines = writes-as (at-write-lon-lat .write-lon-lat .ensures) _ (ap (lineOf lonLatLine) (sym answer));
+      left = call .left;
+    }
 
 returns-2 : tie.Need-returns-2
 returns-2 c =
-    let call = c .before .before .before .before .before .before .before .before .before .before .before .before .unplace .ensures in
-    let wrote = c .before .before .write-refusal .ensures in
-    rw (sym (call .0) ∙ ap givenLonLat (c .before .before .before .before .before .before .n .given .1), ← (c .before .before .before .number .ensures)) (record { end-is = wrote .0; out-is = wrote .1; face-is = call .1 .0; sphere-is = call .1 .1 })
+    let at-write-refusal = c .before .before in
+    let at-number = at-write-refusal .before in
+    let at-n = at-number .before .before .before in
+    let at-sphere-store = at-n .before .before .before in
+    let at-unplace = at-sphere-store .before .before .before in
+    let call = at-unplace .unplace .ensures in
+    let refusal = sym (call .answer) ∙ ap givenLonLat (at-n .n .given .1) in
+    let number = ap refusalLine (at-number .number .ensures) in
+    record {
+      lines = writes-as (at-write-refusal .write-refusal .ensures) _ (number ∙ ap (lineOf lonLatLine) (sym refusal));
+      left = call .left;
+    }
 
 pub answer-unplace-spec : {M : Type 1} → statement M
 answer-unplace-spec =

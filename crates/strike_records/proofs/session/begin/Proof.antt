@@ -1,33 +1,45 @@
--- `session::begin` meets its contract. Assumes nothing.
+-- `session::begin` meets its contract, as open answers or refuses. Assumes nothing.
 use mathlib.Core.Path.{sym, ap, _∙_}
-use Prim.Native.Nat.{zero-le}
 use borrow.Author.Needs.{needs}
-use lib.ListN.{length}
-use Rattle.answer.specs.Given.{Given}
-use Rattle.stores.specs.Slots.{put}
 use Rattle.set.specs.Open.{givenOpen}
-use Rattle.strike_records.specs.Pieces.{fitting, beginStage, beginLine}
-use Rattle.strike_records.proofs.Lines.{nothing-fits}
+use Rattle.strike_records.specs.Line.{refusalLine}
+use Rattle.strike_records.specs.Pieces.{beginStage, beginLine}
+use Rattle.strike_records.proofs.Results.{room-as, room-none}
 use Rattle.strike_records.proofs.session.begin.Statement.{statement}
 use Rattle.strike_records.proofs.session.begin.Tie as tie
 
 returns : tie.Need-returns
-unfolding put
 returns c =
-    let o = c .before .before .before .before .before .before .before .before .«open» in
-    let out = c .before .before .before .before .before .before .before .before .before .before .before .before .before .before .before .before .args .out .now in
-    let e = sym (o .ensures .0) ∙ ap givenOpen (c .enum-told .given .1) in
-    let line = ap (λ (g : Given (Unit {0})). fitting (length out) (beginLine g)) e ∙ nothing-fits (length out) in
-    (ap beginStage (sym e), (ap length (sym line), (ap (put out 0) (sym line), (o .ensures .1 .0, (o .ensures .1 .1 .0, (o .ensures .1 .1 .1, zero-le))))))
+    let at-sphere-store = c .before .before .before in
+    let at-face-store = at-sphere-store .before .before in
+    let at-open = at-face-store .before .before .before in
+    let at-open-arg2 = at-open .before .before in
+    let at-slice-known3 = at-open-arg2 .before .before .before in
+    let entry = at-slice-known3 .before .before .before in
+    let call = at-open .«open» .ensures in
+    let opened = sym (call .answer) ∙ ap givenOpen (c .enum-told .given .1) in
+    record {
+      stage-is = ap beginStage (sym opened);
+      line = room-as _ (ap beginLine (sym opened)) (room-none (entry .args .out .now));
+      left = call .left;
+    }
 
 returns-2 : tie.Need-returns-2
 returns-2 c =
-    let o = c .before .before .before .before .before .before .before .before .before .before .before .before .before .before .«open» in
-    let w = c .before .before .write-fitting in
-    let out = c .before .before .before .before .before .before .before .before .before .before .before .before .before .before .before .before .before .before .before .before .before .before .args .out .now in
-    let e = sym (o .ensures .0) ∙ ap givenOpen (c .before .before .before .before .before .before .n .given .1) ∙ ap Given.refused (sym (c .before .before .before .number .ensures)) in
-    let line = ap (λ (g : Given (Unit {0})). fitting (length out) (beginLine g)) e in
-    (ap beginStage (sym e), (w .ensures .0 ∙ ap length (sym line), (w .ensures .1 .0 ∙ ap (put out 0) (sym line), (o .ensures .1 .0, (o .ensures .1 .1 .0, (o .ensures .1 .1 .1, w .ensures .1 .1))))))
+    let at-write-fitting = c .before .before in
+    let at-number = at-write-fitting .before in
+    let at-n = at-number .before .before .before in
+    let at-sphere-store = at-n .before .before .before in
+    let at-face-store = at-sphere-store .before .before in
+    let at-open = at-face-store .before .before .before in
+    let call = at-open .«open» .ensures in
+    let refusal = sym (call .answer) ∙ ap givenOpen (at-n .n .given .1) in
+    let number = ap refusalLine (at-number .number .ensures) in
+    record {
+      stage-is = ap beginStage (sym refusal);
+      line = room-as _ (number ∙ ap beginLine (sym refusal)) (at-write-fitting .write-fitting .ensures);
+      left = call .left;
+    }
 
 pub begin-spec : {M : Type 1} → statement M
 begin-spec =

@@ -1,36 +1,63 @@
--- `session::feed` meets its contract. Assumes nothing.
-use mathlib.Core.Path.{refl}
+-- `session::feed` meets its contract, stage by stage. Assumes nothing.
+use mathlib.Core.Path.{sym, ap, _∙_}
 use Prim.Native.Nat.{zero-le}
 use borrow.Author.Needs.{needs}
 use lib.ListN.{length}
 use Rattle.arithmetic.specs.Arith.{ieee}
 use Rattle.origin.specs.Origins.{ORIGINS}
-use Rattle.stores.specs.Slots.{put}
-use Rattle.strike_records.specs.Session.{setOf}
-use Rattle.strike_records.specs.Pieces.{fed}
+use Rattle.set.specs.Set.{setOf}
+use Rattle.strike_records.specs.Pieces.{still, fed}
+use Rattle.strike_records.specs.declared.session.Stage.{Stage}
 use Rattle.strike_records.specs.declared.session.Stage.the-variants.{Header, Records}
 use Rattle.strike_records.proofs.Lines.{bounded}
+use Rattle.strike_records.proofs.Results.{feeds-as, feeds-none}
 use Rattle.strike_records.proofs.session.feed.Statement.{statement}
 use Rattle.strike_records.proofs.session.feed.Tie as tie
 
 returns : tie.Need-returns
 returns c =
-    let a = c .before .before .before .before .before .before .before .before .before .before .before .before .before .before .before .before .before .args in
-    let f = c .before .before .before .before .before .before .feed-header .ensures in
-    let most = bounded ieee ORIGINS (setOf (a .frame .now) (a .face .now) (a .sphere .now)) Header (a .input .now) (length (a .out .now)) _ _ (f .taken-is) (f .written-is) in
-    rw (c .before .before .before .before .before .before .before .before .before .before .enum-told .given .1) (f, most)
+    let at-sphere-store = c .before .before .before in
+    let at-feed-header = at-sphere-store .before .before .before in
+    let at-feed-header-arg3 = at-feed-header .before in
+    let at-enum-told = at-feed-header-arg3 .before .before .before in
+    let at-match = at-enum-told .before in
+    let at-slice-known2 = at-match .before .before .before in
+    let entry = at-slice-known2 .before .before .before in
+    let a = entry .args in
+    let s = setOf (a .frame .now) (a .face-store .now) (a .sphere-store .now) in
+    let room = length (a .out .now) in
+    let f = at-feed-header .feed-header .ensures in
+    let same = ap (λ (t : Stage). fed ieee ORIGINS t s (a .input .now) room) (sym (at-enum-told .enum-told .given .1)) in
+    (feeds-as _ same f, bounded ieee ORIGINS s Header (a .input .now) room _ _ (f .taken-is) (f .lines .end-is))
 
 returns-2 : tie.Need-returns-2
 unfolding fed
 returns-2 c =
-    let a = c .before .before .before .before .before .before .before .before .before .before .before .before .before .before .before .before .before .before .args in
-    let f = c .before .before .before .before .before .before .feed-records .ensures in
-    let most = bounded ieee ORIGINS (setOf (a .frame .now) (a .face .now) (a .sphere .now)) (Records _) (a .input .now) (length (a .out .now)) _ _ (f .taken-is) (f .written-is) in
-    rw (c .before .before .before .before .before .before .before .before .before .before .before .stage .given .1) (f, most)
+    let at-sphere-store2 = c .before .before .before in
+    let at-feed-records = at-sphere-store2 .before .before .before in
+    let at-feed-records-arg2 = at-feed-records .before .before in
+    let at-stage = at-feed-records-arg2 .before .before .before in
+    let at-match = at-stage .before in
+    let at-slice-known2 = at-match .before .before .before in
+    let entry = at-slice-known2 .before .before .before in
+    let a = entry .args in
+    let s = setOf (a .frame .now) (a .face-store .now) (a .sphere-store .now) in
+    let room = length (a .out .now) in
+    let f = at-feed-records .feed-records .ensures in
+    let same = ap (λ (t : Stage). fed ieee ORIGINS t s (a .input .now) room) (sym (at-stage .stage .given .1)) in
+    (feeds-as _ same f, bounded ieee ORIGINS s (Records _) (a .input .now) room _ _ (f .taken-is) (f .lines .end-is))
 
 returns-3 : tie.Need-returns-3
-unfolding fed put
-returns-3 c = rw (c .enum-told2 .given .1) (record { stage-is = refl; taken-is = refl; written-is = refl; out-is = refl; face-is = refl; sphere-is = refl }, (zero-le, zero-le))
+unfolding fed
+returns-3 c =
+    let at-match = c .before in
+    let at-slice-known2 = at-match .before .before .before in
+    let entry = at-slice-known2 .before .before .before in
+    let a = entry .args in
+    let s = setOf (a .frame .now) (a .face-store .now) (a .sphere-store .now) in
+    let stopped = c .enum-told2 .given .1 in
+    let same = ap (λ (t : Stage). still t s) stopped ∙ ap (λ (t : Stage). fed ieee ORIGINS t s (a .input .now) (length (a .out .now))) (sym stopped) in
+    (feeds-as _ same (feeds-none s (a .out .now) (a .stage)), (zero-le, zero-le))
 
 pub feed-spec : {M : Type 1} → statement M
 feed-spec =

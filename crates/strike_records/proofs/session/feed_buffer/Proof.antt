@@ -1,11 +1,18 @@
--- `session::feed_buffer` meets its contract. Assumes nothing.
+-- `session::feed_buffer` meets its contract: the bytes of the buffer are fed, and what was not taken of them is moved to its start.
+-- Assumes nothing.
 use mathlib.Core.Path.{_≡_, sym, ap, _∙_}
+use mathlib.Core.List.{List}
 use Prim.Native.Nat.{ℕ}
 use borrow.Author.Needs.{needs}
 use lib.ListN.{length, take, drop}
 use lib.Seq.{length-take-le}
-use Rattle.stores.specs.Slots.{put}
+use Rattle.arithmetic.specs.Arith.{ieee}
+use Rattle.origin.specs.Origins.{ORIGINS}
+use Rattle.set.specs.Set.{setOf}
+use Rattle.strike_records.specs.Pieces.{fed}
+use Rattle.strike_records.proofs.Written.{writes-as}
 use Rattle.strike_records.proofs.Lines.{take-min}
+use Rattle.strike_records.proofs.Results.{feeds-as}
 use Rattle.strike_records.proofs.session.feed_buffer.Statement.{statement}
 use Rattle.strike_records.proofs.session.feed_buffer.Tie as tie
 
@@ -14,24 +21,33 @@ slice-aggregate-feed c = sym (length-take-le _ _ (search needs))
 
 returns : tie.Need-returns
 returns c =
-    let a = c .before .before .before .before .before .before .before .before .before .before .before .before .before .before .before .before .before .before .before .before .before .args in
-    let fed = c .before .before .before .before .before .before .before .before .before .before .feed in
-    let keep = c .before .before .keep-rest .ensures in
+    let at-keep-rest = c .before .before in
+    let at-out = at-keep-rest .before .before .before in
+    let at-sphere-store = at-out .before .before in
+    let at-feed = at-sphere-store .before .before .before in
+    let at-feed-arg3 = at-feed .before .before in
+    let at-least = at-feed-arg3 .before .before .before in
+    let at-slice-known2 = at-least .before .before .before in
+    let entry = at-slice-known2 .before .before .before in
+    let a = entry .args in
+    let s = setOf (a .frame .now) (a .face-store .now) (a .sphere-store .now) in
     let held = a .buffer .now in
-    let whole : take (c .before .before .before .before .before .before .before .before .before .before .before .before .before .before .before .least .result) held ≡ take (a .filled) held = ap (λ (n : ℕ). take n held) (c .before .before .before .before .before .before .before .before .before .before .before .before .before .before .before .least .ensures) ∙ take-min (a .filled) held in
-    let f = rw whole at (fed .ensures .0) in
-    let rest = ap (drop (fed .result .taken)) whole ∙ ap (λ (t : ℕ). drop t (take (a .filled) held)) (f .taken-is) in (
-      record {
-        stage-is = f .stage-is;
-        kept-is = keep .0 ∙ ap length rest;
-        written-is = f .written-is;
-        buffer-is = keep .1 .0 ∙ ap (put held 0) rest;
-        out-is = f .out-is;
-        face-is = f .face-is;
-        sphere-is = f .sphere-is;
-      },
-      (keep .1 .1, fed .ensures .1 .1),
-    )
+    let room = length (a .out .now) in
+    let call = at-feed .feed in
+    let keep = at-keep-rest .keep-rest .ensures in
+    let whole : take (at-least .least .result) held ≡ take (a .filled) held =
+    ap (λ (n : ℕ). take n held) (at-least .least .ensures) ∙ take-min (a .filled) held in
+    let f = feeds-as (λ t. fed ieee ORIGINS (a .stage) t (take (a .filled) held) room) (ap (λ (l : List ℕ). fed ieee ORIGINS (a .stage) s l room) whole)
+    (call .ensures .0) in
+    let rest = ap (drop (call .result .taken)) whole ∙ ap (λ (n : ℕ). drop n (take (a .filled) held)) (f .taken-is) in
+    record {
+      stage-is = f .stage-is;
+      kept = writes-as (keep .0) _ rest;
+      lines = f .lines;
+      left = f .left;
+      kept-within = keep .1;
+      written-within = call .ensures .1 .1;
+    }
 
 pub feed-buffer-spec : {M : Type 1} → statement M
 feed-buffer-spec =

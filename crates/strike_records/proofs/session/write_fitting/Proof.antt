@@ -1,28 +1,33 @@
 -- `session::write_fitting` meets its contract. Assumes nothing.
-use mathlib.Core.Path.{refl, _∙_}
+use mathlib.Core.Path.{sym}
 use Prim.Native.Nat.{_≤_, zero-le}
-use native.Mathlib.Nat.{zero-add}
 use native.Mathlib.Omega.{arith}
 use borrow.Author.Needs.{needs}
-use borrow.Author.Tests.{lt-ltb, le-ltb}
 use lib.ListN.{length}
-use Rattle.strike_records.specs.Line.{LINE}
-use Rattle.stores.specs.Slots.{put}
-use Rattle.strike_records.specs.Pieces.{fitting}
+use Rattle.strike_records.specs.Line.{LINE, refusalLine}
+use Rattle.strike_records.proofs.Written.{writes-as}
 use Rattle.strike_records.proofs.Lines.{refusal-fits}
+use Rattle.strike_records.proofs.Results.{writes-none, no-room, with-room}
 use Rattle.strike_records.proofs.session.write_fitting.Statement.{statement}
 use Rattle.strike_records.proofs.session.write_fitting.Tie as tie
 
 returns : tie.Need-returns
-unfolding fitting put
-returns c = rw (lt-ltb _ _ (c .if1 .taken), fitting) (refl, (refl, zero-le))
+returns c =
+    let entry = c .before .before in
+    let a = entry .args in
+    let narrow = no-room (length (a .out .now)) (refusalLine (a .number)) (c .if1 .taken) in
+    record { line-is = writes-as (writes-none (a .out .now)) _ (sym narrow); within = zero-le }
 
 returns-2 : tie.Need-returns-2
-unfolding fitting
 returns-2 c =
-    let w = c .before .before .write-refusal in
-    let room : LINE ≤ length (c .before .before .before .before .before .before .args .out .now) = c .before .before .before .before .if1 .left in
-    rw (le-ltb _ _ (c .before .before .before .before .if1 .left), fitting) (w .ensures .0 ∙ zero-add _, (w .ensures .1, omega (arith, refusal-fits (c .before .before .before .before .before .before .args .number), w .ensures .0)))
+    let at-write-refusal = c .before .before in
+    let at-if1 = at-write-refusal .before .before in
+    let entry = at-if1 .before .before in
+    let a = entry .args in
+    let wrote = at-write-refusal .write-refusal .ensures in
+    let room : LINE ≤ length (a .out .now) = at-if1 .if1 .left in
+    let whole = with-room (length (a .out .now)) (refusalLine (a .number)) room in
+    record { line-is = writes-as wrote _ (sym whole); within = omega (arith, refusal-fits (a .number), wrote .end-is) }
 
 pub write-fitting-spec : {M : Type 1} → statement M
 write-fitting-spec = tie.close (tie.spec returns (λ c κs. search needs) (λ c. search needs) returns-2)

@@ -19,11 +19,13 @@ vertices c = c .get-quintant-vertices .ensures ∙ ap (getQuintantVertices ieee)
 
 returns : tie.Need-returns
 unfolding halfOf getBaseFaceTriangle
-returns c = rw (c .if1 .taken, ← (vertices (c .before .before .before .before .before)), c .before .midpoint .ensures)
+returns c = let taken = c .before .before .before in rw (c .if1 .taken, ← (vertices (taken .before .before)), c .before .midpoint .ensures)
 
 returns-2 : tie.Need-returns-2
 unfolding halfOf getBaseFaceTriangle
-returns-2 c = rw (ne-eqb _ _ (c .if1 .left), ← (vertices (c .before .before .before .before .before)), c .before .midpoint .ensures)
+returns-2 c =
+    let taken = c .before .before .before in
+    rw (ne-eqb _ _ (c .if1 .left), ← (vertices (taken .before .before)), c .before .midpoint .ensures)
 
 pub get-base-face-triangle-spec : {M : Type 1} → statement M
 get-base-face-triangle-spec =

@@ -8,12 +8,16 @@ use Rattle.tiling.proofs.face_triangles.get_reflected_face_triangle.Tie
 returns : tie.Need-returns
 unfolding reflectedOf getReflectedFaceTriangle
 returns c =
-    rw (c .before .if1 .taken, c .beyond .ensures, c .before .before .scale-of .ensures, c .before .before .before .before .before .before .get-base-face-triangle .ensures)
+    let scaled = c .before .before in
+    let base = scaled .before .before in
+    rw (c .before .if1 .taken, c .beyond .ensures, scaled .scale-of .ensures, base .before .before .get-base-face-triangle .ensures)
 
 returns-2 : tie.Need-returns-2
 unfolding reflectedOf getReflectedFaceTriangle
 returns-2 c =
-    rw (ne-eqb _ _ (c .before .if1 .left), c .beyond2 .ensures, c .before .before .scale-of .ensures, c .before .before .before .before .before .before .get-base-face-triangle .ensures)
+    let scaled = c .before .before in
+    let base = scaled .before .before in
+    rw (ne-eqb _ _ (c .before .if1 .left), c .beyond2 .ensures, scaled .scale-of .ensures, base .before .before .get-base-face-triangle .ensures)
 
 pub get-reflected-face-triangle-spec : {M : Type 1} → statement M
 get-reflected-face-triangle-spec =

@@ -9,4 +9,8 @@ use Rattle.tiling.proofs.index.should_reflect.Tie as tie
 pub should-reflect-spec : {M : Type 1} → statement M
 unfolding shouldReflect cos ofBits
 should-reflect-spec =
-    tie.close (tie.spec (λ c κs. tt) (λ c κs. rw (c .normalize-gamma .ensures) (normalized-inside (c .before .before .args .polar .gamma))) (λ c. rw (c .before .cos-inside .ensures, c .before .before .normalize-gamma .ensures)))
+    tie.close
+    (tie.spec
+    (λ c κs. tt)
+    (λ c κs. rw (c .normalize-gamma .ensures) (normalized-inside (c .before .before .args .polar .gamma)))
+    (λ c. rw (c .before .cos-inside .ensures, c .before .before .normalize-gamma .ensures)))

@@ -1,4 +1,5 @@
--- `index::whole_modulo` meets its contract: below 2^52 by the whole part itself, from there on by what the size leaves by 10.0, which is exact. Assumes nothing.
+-- `index::whole_modulo` meets its contract: below 2^52 by the whole part itself, from there on by what the size leaves by 10.0, which is
+-- exact. Assumes nothing.
 use mathlib.Core.Path.{sym, ap, _∙_, subst}
 use mathlib.Core.Bool.{not}
 use Prim.Native.Nat.{_%_}
@@ -21,18 +22,27 @@ truncating-f64-to-u64-requires c κs = cut-below (c .before .before .before .arg
 
 returns : tie.Need-returns
 returns c =
-    c .modulo .ensures
-    ∙ modulo-is (c .before .before .before .before .before .args .x) (c .before .before .negative .result) (c .before .truncating-f64-to-u64 .result) (c .before .before .negative .ensures)
-    (ap (λ k. k % 10) (c .before .truncating-f64-to-u64 .ensures ∙ cut-below (c .before .before .before .before .before .args .x) (c .before .before .before .before .abs .result) (small (c .before .before .before)) .is))
+    let cut = c .before .truncating-f64-to-u64 in
+    let sign = c .before .before .negative in
+    let low = c .before .before .before in
+    let x = low .before .before .args .x in
+    let part = cut .ensures ∙ cut-below x (low .before .abs .result) (small low) .is in
+    c .modulo .ensures ∙ modulo-is x (sign .result) (cut .result) (sign .ensures) (ap (λ k. k % 10) part)
 
 returns-2 : tie.Need-returns-2
-returns-2 c = not-finite (c .before .before .before .before .args .x) (sym (c .before .is-finite .ensures) ∙ not-true _ (c .if2 .taken))
+returns-2 c =
+    let sized = c .before .before .before in
+    not-finite (sized .before .args .x) (sym (c .before .is-finite .ensures) ∙ not-true _ (c .if2 .taken))
 
-digit : (c : tie.Else2) → LastDigit (c .before .before .before .before .args .x) (rem binary64 (c .before .before .before .abs .result) (ofBits binary64 0x4024_0000_0000_0000))
+-- where the size is known, and x is finite
+abbrev sized : tie.Else2 → tie.After-abs
+sized c = c .before .before .before
+
+digit : (c : tie.Else2) → LastDigit (sized c .before .args .x) (rem binary64 (sized c .abs .result) (ofBits binary64 0x4024_0000_0000_0000))
 digit c =
-    let x = c .before .before .before .before .args .x in
-    let a = c .before .before .before .abs in
-    last-digit x (a .result) (rw (a .ensures) (abs-fits x (subst T (sym (c .before .before .before .before .good .0 .1)) tt)))
+    let a = sized c .abs in
+    let start = sized c .before in
+    last-digit (start .args .x) (a .result) (rw (a .ensures) (abs-fits (start .args .x) (subst T (sym (start .good .0 .1)) tt)))
     (sym (c .before .is-finite .ensures) ∙ not-false _ (c .if2 .left))
     (a .ensures)
 
@@ -41,13 +51,13 @@ truncating-f64-to-u64-requires-2 c κs = rw (c .before .remainder .ensures) (dig
 
 returns-3 : tie.Need-returns-3
 returns-3 c =
-    let t = c .before .truncating-f64-to-u642 in
-    let n = c .before .before .negative2 in
-    let left = c .before .before .before .remainder in
-    let e = c .before .before .before .before in
+    let cut = c .before .truncating-f64-to-u642 in
+    let sign = c .before .before .negative2 in
+    let divided = c .before .before .before in
+    let finite = divided .before in
+    let left = cut .ensures ∙ ap (toUnsigned 64) (divided .remainder .ensures) ∙ digit finite .is in
     c .modulo2 .ensures
-    ∙ modulo-is (e .before .before .before .before .args .x) (n .result) (t .result) (n .ensures)
-    (ap (λ k. k % 10) (t .ensures ∙ ap (toUnsigned 64) (left .ensures) ∙ digit e .is) ∙ mod-mod _ 10)
+    ∙ modulo-is (sized finite .before .args .x) (sign .result) (cut .result) (sign .ensures) (ap (λ k. k % 10) left ∙ mod-mod _ 10)
 
 pub whole-modulo-spec : {M : Type 1} → statement M
 whole-modulo-spec =

@@ -5,8 +5,34 @@ use Rattle.triangles.proofs.triangles.corner_vertex.Statement.{statemen
 use Rattle.triangles.proofs.triangles.corner_vertex.Tie as tie
 
 to-cartesian-requires : tie.Need-to-cartesian-requires
-to-cartesian-requires c κs = rw (c .inverse .ensures, c .before .before .before .to-polar .ensures) (corner-inside (c .before .before .before .before .before .args .corner) (c .before .before .before .before .before .args .origin .angle .0) (c .before .before .before .before .before .pre))
+to-cartesian-requires c κs =
+    let polar = c .before .before .before in
+    let start = polar .before .before in
+    rw (c .inverse .ensures, polar .to-polar .ensures)
+    (corner-inside (start .args .corner) (start .args .origin .angle .0) (start .pre))
+
+returns : tie.Need-returns
+unfolding cornerVertex
+returns c =
+    let turned = c .before in
+    let cartesian = turned .before .before in
+    let sphere = cartesian .before in
+    let polar = sphere .before .before .before in
+    rw (
+      c .get-vertex .ensures,
+      turned .transform-quat .ensures,
+      cartesian .to-cartesian .ensures,
+      sphere .inverse .ensures,
+      polar .to-polar .ensures,
+    )
 
 pub corner-vertex-spec : {M : Type 1} → statement M
-unfolding cornerVertex
-corner-vertex-spec = tie.close (tie.spec (λ c κs. tt) (λ c κs. tt) to-cartesian-requires (λ c κs. tt) (λ c κs. tt) (λ c. rw (c .get-vertex .ensures, c .before .transform-quat .ensures, c .before .before .before .to-cartesian .ensures, c .before .before .before .before .inverse .ensures, c .before .before .before .before .before .before .before .to-polar .ensures)))
+corner-vertex-spec =
+    tie.close
+    (tie.spec
+    (λ c κs. tt)
+    (λ c κs. tt)
+    to-cartesian-requires
+    (λ c κs. tt)
+    (λ c κs. tt)
+    returns)

@@ -14,4 +14,18 @@ unfolding faceTaken
 returns-2 c = simp (c .face-triangle .ensures, ← (c .before .before .is-filled .ensures), c .before .if1 .left)
 
 pub take-face-spec : {M : Type 1} → statement M
-take-face-spec = tie.close (tie.spec (λ c. search needs) (λ c κs. search needs) (λ c. search needs) (λ c. search needs) (λ c. search needs) (λ c. search needs) (λ c. search needs) (λ c. search needs) (λ c κs. search needs) (λ c κs. tt) returns returns-2)
+take-face-spec =
+    tie.close
+    (tie.spec
+    (λ c. search needs)
+    (λ c κs. search needs)
+    (λ c. search needs)
+    (λ c. search needs)
+    (λ c. search needs)
+    (λ c. search needs)
+    (λ c. search needs)
+    (λ c. search needs)
+    (λ c κs. search needs)
+    (λ c κs. tt)
+    returns
+    returns-2)

@@ -14,4 +14,19 @@ unfolding sphereTaken
 returns-2 c = simp (c .build-sphere .ensures, c .before .take-face .ensures, ← (c .before .before .before .is-filled .ensures), c .before .before .if1 .left)
 
 pub take-sphere-spec : {M : Type 1} → statement M
-take-sphere-spec = tie.close (tie.spec (λ c. search needs) (λ c κs. search needs) (λ c. search needs) (λ c. search needs) (λ c. search needs) (λ c. search needs) (λ c. search needs) (λ c. search needs) (λ c κs. search needs) (λ c κs. search needs) (λ c κs. search needs) returns returns-2)
+take-sphere-spec =
+    tie.close
+    (tie.spec
+    (λ c. search needs)
+    (λ c κs. search needs)
+    (λ c. search needs)
+    (λ c. search needs)
+    (λ c. search needs)
+    (λ c. search needs)
+    (λ c. search needs)
+    (λ c. search needs)
+    (λ c κs. search needs)
+    (λ c κs. search needs)
+    (λ c κs. search needs)
+    returns
+    returns-2)

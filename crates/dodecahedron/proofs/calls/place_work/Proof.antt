@@ -1,0 +1,85 @@
+-- `calls::place_work` meets its contract: refused by its checks, or what its core comes to. Assumes nothing.
+use mathlib.Core.Path.{_≡_, sym, ap, _∙_}
+use borrow.Author.Needs.{needs}
+use Rattle.answer.specs.Given.{Given, passed, andThen}
+use Rattle.answer.specs.Answer.{givenCheck}
+use Rattle.answer.proofs.Given.{then-answered, then-passed}
+use Rattle.arithmetic.specs.Arith.{ieee}
+use Rattle.coordinates.specs.Conversions.{checkLonLat}
+use Rattle.coordinates.proofs.Sizes.{latitude-inside, from-lon-lat-inside}
+use Rattle.origin.specs.Origins.{ORIGINS}
+use Rattle.origin.proofs.LowestNearest.{nearest-is}
+use Rattle.set.specs.Set.{checkSet}
+use Rattle.set.specs.Outcome.{held}
+use Rattle.set.proofs.Lengths.{set-passed, call-passes}
+use Rattle.dodecahedron.proofs.Ended.{place-is, place-refused}
+use Rattle.dodecahedron.proofs.calls.place_work.Statement.{statement}
+use Rattle.dodecahedron.proofs.calls.place_work.Tie as tie
+
+abbrev start : tie.After-first-refusal → tie.Start
+start c =
+    let set = c .before .before in
+    let known = set .before .before .before in
+    known .before
+
+-- the checks of the call, on what it is lent
+abbrev tests : tie.Start → Given (Unit {0})
+tests c =
+    let a = c .args in
+    andThen (checkSet (held (a .frame) (a .face-store) (a .sphere-store))) (checkLonLat (a .lonlat))
+
+tested : (c : tie.After-first-refusal) → givenCheck (c .first-refusal .result) ≡ tests (start c)
+tested c =
+    let set = c .before .before in
+    rw (c .first-refusal .ensures, set .check-set .ensures, c .before .check-lon-lat .ensures)
+
+passes : (c : tie.After-enum-told) → tests (start (c .before .before)) ≡ passed
+passes c = sym (tested (c .before .before)) ∙ ap givenCheck (c .enum-told .given .1)
+
+returns : tie.Need-returns
+returns c =
+    let checked = c .before .before .before in
+    sym (place-refused ieee ORIGINS _ _ _ (sym (tested checked) ∙ ap givenCheck (c .before .check .given .1)))
+
+position-passes : (c : tie.After-enum-told) → checkLonLat (start (c .before .before) .args .lonlat) ≡ passed
+position-passes c =
+    let a = start (c .before .before) .args in
+    then-answered (checkSet (held (a .frame) (a .face-store) (a .sphere-store))) _ tt (passes c) .1
+
+from-lon-lat-requires : tie.Need-from-lon-lat-requires
+from-lon-lat-requires c κs = latitude-inside _ (position-passes c)
+
+find-nearest-origin-requires : tie.Need-find-nearest-origin-requires
+find-nearest-origin-requires c κs = rw (c .from-lon-lat .ensures) (from-lon-lat-inside _ (position-passes (c .before)))
+
+forward-core-requires : tie.Need-forward-core-requires
+forward-core-requires c κs =
+    let position = c .before in
+    let set-passes = then-answered _ _ tt (passes (position .before)) .0 in (
+      call-passes _ _ (set-passed _ set-passes) (rw (c .find-nearest-origin .ensures) (nearest-is ieee ORIGINS _ .origin)),
+      rw (position .from-lon-lat .ensures) (from-lon-lat-inside _ (position-passes (position .before))),
+    )
+
+returns-2 : tie.Need-returns-2
+returns-2 c =
+    let core = c .before in
+    let nearest = core .before in
+    let position = nearest .before in
+    let is = place-is ieee ORIGINS _ _ _ _ (position .from-lon-lat .ensures) (nearest .find-nearest-origin .ensures) in
+    rw (c .finish-place .ensures, core .forward-core .ensures) (sym (is ∙ then-passed _ _ (passes (position .before))))
+
+pub place-work-spec : {M : Type 1} → statement M
+place-work-spec =
+    tie.close
+    (tie.spec
+    (λ c κs. search needs)
+    (λ c κs. search needs)
+    (λ c κs. search needs)
+    (λ c. search needs)
+    returns
+    (λ c. search needs)
+    from-lon-lat-requires
+    find-nearest-origin-requires
+    forward-core-requires
+    (λ c κs. search needs)
+    returns-2)

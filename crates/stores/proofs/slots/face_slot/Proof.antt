@@ -1,0 +1,7 @@
+-- `slots::face_slot` meets its contract. Assumes nothing.
+use borrow.Author.Needs.{needs}
+use Rattle.stores.proofs.slots.face_slot.Statement.{statement}
+use Rattle.stores.proofs.slots.face_slot.Tie as tie
+
+pub face-slot-spec : {M : Type 1} → statement M
+face-slot-spec = tie.close (tie.spec (λ c. search needs) (λ c. simp (c .if1 .taken)) (λ c. simp (c .if1 .left)))

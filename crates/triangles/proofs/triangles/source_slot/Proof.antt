@@ -1,8 +1,0 @@
--- `triangles::source_slot` meets its contract. Assumes nothing.
-use borrow.Author.Needs.{needs}
-use native.Mathlib.Omega.{arith}
-use Rattle.triangles.proofs.triangles.source_slot.Statement.{statement}
-use Rattle.triangles.proofs.triangles.source_slot.Tie as tie
-
-pub source-slot-spec : {M : Type 1} → statement M
-source-slot-spec = tie.close (tie.spec (λ c. search needs) (λ c. (simp (c .if1 .taken), omega arith)) (λ c. (simp (c .if1 .left), omega arith)))
