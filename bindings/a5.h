@@ -4,9 +4,10 @@
  * Link with liba5faces.a, which `bindings/library` writes: -la5faces.
  *
  * A call that can be refused returns A5_ANSWERED (0), or the number of its refusal. a5_box_new, a5_window_new and
- * a5_window_counts are never refused and return nothing, a5_window_kept returns the number kept. An answer goes to the
- * memory that is lent for it (to, id, filled, part, box, grants, window, counts, page). A refused call leaves everything
- * lent as it was, bit for bit. Any number may be passed: what is outside the limits is refused, and every call ends.
+ * a5_window_counts are never refused and return nothing; a5_window_kept, a5_sqrt and a5_sqrt_rounds return their number.
+ * An answer goes to the memory that is lent for it (to, id, filled, part, box, grants, window, counts, page). A refused
+ * call leaves everything lent as it was, bit for bit. Any number may be passed: what is outside the limits is refused,
+ * and every call ends.
  *
  * A set is three buffers of double that the caller owns: the frame, the face store and the sphere store. It is lent to
  * each call, each buffer as a pointer and how many numbers there are. a5_open makes it ready; forward, inverse, place
@@ -73,7 +74,7 @@ enum a5_status {
     A5_REFUSED_UNKNOWN_ORIGIN = 4,      /* the origin's number is above 11 */
     A5_REFUSED_NOT_FINITE = 5,          /* a number passed is infinite or NaN */
     A5_REFUSED_OUT_OF_RANGE = 6,        /* a number passed is outside its range */
-    A5_REFUSED_FRAME_ROWS = 7,          /* open's frame hasn't 62 rows: no way to it is known */
+    A5_REFUSED_FRAME_ROWS = 7,          /* open's frame hasn't 62 rows: never with the built-in table, as is proved */
     A5_REFUSED_NO_VERTEX = 8,           /* a triangle that must be built has no frame vertex: not an opened set */
     A5_REFUSED_ANSWER_NOT_FINITE = 9,   /* the answer would have a number that isn't finite */
     A5_REFUSED_UNKNOWN_SLOT = 10,       /* no such slot: 30 or more (face), 240 or more (sphere) */
@@ -160,6 +161,13 @@ uint8_t a5_box_take(a5_box *box, double x, double y);
  * every channel gets at least the smaller of 16 and its wish, and none more than its wish. What channel k gets goes to
  * grants[k]. Refusals: 24, 25. */
 uint8_t a5_fair_turns(const uint16_t *wishes, size_t wishes_length, uint16_t *grants, size_t grants_length);
+
+/* The square root, rounded to the nearest double, as IEEE 754 has it: the root that the calls take. Refuses nothing. */
+double a5_sqrt(double x);
+
+/* How many rounds that root takes, a binary digit a round from the first 1 on: the least count of digits that are the exact
+ * root, or 53 where there is none; 0 for all but a finite number above 0. So 4 gives 1, 9 gives 2 and 2 gives 53. */
+uint32_t a5_sqrt_rounds(double x);
 
 /* How many strikes a window keeps at most, and how many minutes it looks back. */
 #define A5_WINDOW_MOST 4096

@@ -13,6 +13,7 @@ pub trait Form {
     fn unplace(&mut self, place: Place) -> [f64; 2];
     fn sine(&mut self, x: f64) -> f64;
     fn remainder(&mut self, x: f64, y: f64) -> f64;
+    fn sqrt(&self, x: f64) -> f64;
 }
 
 // Sine and remainder by themselves are no calls of the library: crate exports_elementary has them for this alone.
@@ -84,11 +85,15 @@ impl Form for Ours {
     fn remainder(&mut self, x: f64, y: f64) -> f64 {
         unsafe { a5_remainder(x, y) }
     }
+
+    fn sqrt(&self, x: f64) -> f64 {
+        a5_faces::sqrt(x)
+    }
 }
 
-// One form of the Rust: the same sources under another crate's name, and the sine that they use.
+// One form of the Rust: the same sources under another crate's name, and the sine and the root that they use.
 macro_rules! rust_form {
-    ($form:ident, $a5:ident, $sine:expr) => {
+    ($form:ident, $a5:ident, $sine:expr, $sqrt:expr) => {
         pub struct $form($a5::projections::dodecahedron::DodecahedronProjection);
 
         impl $form {
@@ -150,9 +155,18 @@ macro_rules! rust_form {
             fn remainder(&mut self, x: f64, y: f64) -> f64 {
                 x % y
             }
+
+            fn sqrt(&self, x: f64) -> f64 {
+                $sqrt(x)
+            }
         }
     };
 }
 
-rust_form!(Stepped, a5_stepped, a5_stepped::steps::sin);
-rust_form!(Plain, a5_plain, f64::sin);
+rust_form!(
+    Stepped,
+    a5_stepped,
+    a5_stepped::steps::sin,
+    a5_stepped::steps::sqrt
+);
+rust_form!(Plain, a5_plain, f64::sin, f64::sqrt);

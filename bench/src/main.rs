@@ -17,7 +17,7 @@ const POINTS: usize = 5000;
 const A_RUN: usize = 250;
 const RUNS: usize = 401;
 
-const CALLS: [&str; 9] = [
+const CALLS: [&str; 11] = [
     "open",
     "nearest",
     "from_lon_lat",
@@ -27,12 +27,38 @@ const CALLS: [&str; 9] = [
     "sine",
     "sine far",
     "remainder",
+    "sqrt",
+    "sqrt exact",
 ];
 
 // Sine within a turn is at the points' own theta, beyond it at theta and so much more: some six turns. The remainder is
 // that of a longitude times so much, by a turn in degrees.
 pub const FAR: f64 = 40.0;
 pub const TIMES: f64 = 1000.0;
+
+// Roots one behind the other, as the calls take them: each is the root of the last one times so much and more, and no such
+// number is a square.
+fn roots(sqrt: impl Fn(f64) -> f64) -> f64 {
+    let mut x = black_box(1.3);
+    let start = Instant::now();
+    for _ in 0..A_RUN {
+        x = sqrt(x * 1.7 + 0.3);
+    }
+    black_box(x);
+    start.elapsed().as_nanos() as f64 / A_RUN as f64
+}
+
+// The same at the squares of 1 to 250: each waits for the last root, by a zero that is made of it.
+fn exact_roots(sqrt: impl Fn(f64) -> f64) -> f64 {
+    let mut x = black_box(0.0);
+    let start = Instant::now();
+    for n in 1..=A_RUN {
+        let square = (n * n) as f64;
+        x = sqrt(square + x * 0.0);
+    }
+    black_box(x);
+    start.elapsed().as_nanos() as f64 / A_RUN as f64
+}
 
 // Longitude and latitude of points that lie evenly over the sphere.
 fn points() -> Vec<[f64; 2]> {
@@ -76,6 +102,8 @@ fn run(form: &mut impl Form, points: &Points, at: usize) -> [f64; CALLS.len()] {
         time(radians, |p| form.sine(p[0])),
         time(radians, |p| form.sine(p[0] + FAR)),
         time(degrees, |p| form.remainder(p[0] * TIMES, 360.0)),
+        roots(|x| form.sqrt(x)),
+        exact_roots(|x| form.sqrt(x)),
     ]
 }
 

@@ -407,6 +407,28 @@ static void session_of_place_and_unplace(void) {
     CHECK(opening(&s, 0.0, 0.0, 0).status == A5_ANSWERED && same_numbers(&s, &fresh), "opened again");
 }
 
+/* ---- the square root */
+
+static void root_is(double x, double root, uint32_t rounds) {
+    double given = a5_sqrt(x);
+    CHECK(memcmp(&given, &root, sizeof root) == 0, "sqrt");
+    CHECK(a5_sqrt_rounds(x) == rounds, "sqrt_rounds");
+}
+
+static void square_roots(void) {
+    root_is(4.0, 2.0, 1);
+    root_is(9.0, 3.0, 2);
+    root_is(2.0, 1.4142135623730951, 53);
+    root_is(0.0, 0.0, 0);
+    root_is(-0.0, -0.0, 0);
+    root_is(INFINITY, INFINITY, 0);
+    root_is(0x1p-1074, 0x1p-537, 1);
+    root_is(67108863.0 * 67108863.0, 67108863.0, 26);
+    const double none[] = {-1.0, NAN, -INFINITY};
+    for (int i = 0; i < 3; i++)
+        CHECK(isnan(a5_sqrt(none[i])) && a5_sqrt_rounds(none[i]) == 0, "no root");
+}
+
 int main(void) {
     opening_a_set();
     wrong_lengths();
@@ -415,6 +437,7 @@ int main(void) {
     wrong_contents_and_answers();
     showing();
     fair_turns();
+    square_roots();
     session_of_document_01();
     session_of_place_and_unplace();
     printf("bindings/c/test: %d checks, %d failed\n", checks, failures);

@@ -5,7 +5,8 @@
 //! changes nothing. Angles of [`LonLat`] are degrees, those of [`Spherical`] are radians. A [`CaptionBox`] grows round
 //! the points of one face, and a [`Window`] keeps the last 180 minutes of strikes.
 //!
-//! [`fair_turns`](fair_turns()) hands out a turn's place calls to sixteen channels.
+//! [`fair_turns`](fair_turns()) hands out a turn's place calls to sixteen channels. [`sqrt`] is the root that the calls
+//! take, and [`sqrt_rounds`] says how many rounds it takes.
 //!
 //! The calls expect the processor's usual floating-point state: rounding to nearest, subnormal numbers kept.
 
@@ -14,6 +15,7 @@ mod caption;
 mod points;
 mod raw;
 mod refusal;
+mod root;
 mod set;
 mod turns;
 mod window;
@@ -21,6 +23,7 @@ mod window;
 pub use caption::{CaptionBox, Sides};
 pub use points::{Face, LonLat, Place, Spherical, Store};
 pub use refusal::Refusal;
+pub use root::{sqrt, sqrt_rounds};
 pub use set::Set;
 pub use turns::fair_turns;
 pub use window::Window;

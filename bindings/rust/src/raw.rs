@@ -60,6 +60,8 @@ extern "C" {
     pub fn a5_nearest(theta: f64, phi: f64, id: *mut u8) -> u8;
     pub fn a5_from_lon_lat(longitude: f64, latitude: f64, to: *mut [f64; 2]) -> u8;
     pub fn a5_to_lon_lat(theta: f64, phi: f64, to: *mut [f64; 2]) -> u8;
+    pub fn a5_sqrt(x: f64) -> f64;
+    pub fn a5_sqrt_rounds(x: f64) -> u32;
     pub fn a5_box_new(caption: *mut Caption);
     pub fn a5_box_take(caption: *mut Caption, x: f64, y: f64) -> u8;
     pub fn a5_fair_turns(

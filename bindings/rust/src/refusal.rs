@@ -16,7 +16,7 @@ pub enum Refusal {
     NotFinite = 5,
     /// A number passed is outside its range.
     OutOfRange = 6,
-    /// Open's frame hasn't 62 rows: no way to it is known.
+    /// Open's frame hasn't 62 rows: never with the built-in table, as is proved.
     FrameRows = 7,
     /// A triangle that must be built has no vertex in the frame: the set was not opened.
     NoVertex = 8,

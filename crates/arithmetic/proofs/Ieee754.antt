@@ -1,5 +1,6 @@
--- `sqrt` is IEEE 754's square root. Of a finite x above zero it is the value of the format that is nearest to x's root, no other value is as near, and there is only one such
--- value (`sqrt-is-root`, `root-unique`). What it gives elsewhere is said by `sqrt-elsewhere`. Assumes nothing.
+-- `sqrt` is IEEE 754's square root. Of a finite x above zero it is the value of the format that is nearest to x's root, no other value is
+-- as near, and there is only one such value (`sqrt-is-root`, `root-unique`). It is at least 2 ^ -537, so never subnormal (`sqrt-least`).
+-- What it gives elsewhere is said by `sqrt-elsewhere`. Assumes nothing.
 use mathlib.Core.Path.{_≡_, refl, sym, ap, _∙_, subst}
 use mathlib.Core.Logic.{_⊎_, inl, inr}
 use Prim.Native.Nat.{ℕ, zero, suc, _+_, _-_, _*_, _/_, _%_, _^_, _≤_, _<_, zero-le}
@@ -15,7 +16,7 @@ use lib.Ieee.Order.{transfer}
 use lib.Ieee.Fits.{down-pos, nan-fits, inf-fits}
 use lib.Ieee.Positive.{num, den, den-pos, positive, positive-of-value, own-value, value→cross, first-pos}
 use lib.Ieee.Scale.{finite}
-use Rattle.arithmetic.specs.Nearest.{midpoint, rootTwice, IsRoot}
+use Rattle.arithmetic.specs.Nearest.{sumSquared, fourTimes, IsRoot}
 use Rattle.arithmetic.specs.Sqrt.{nearestRoot, sqrt}
 use Rattle.arithmetic.proofs.Powers.{apart}
 use Rattle.arithmetic.proofs.Compared.{lt-values}
@@ -44,7 +45,8 @@ module _ (n q p : ℕ) (large : 2 ^ 104 ≤ n) (wide-q : 2 ^ 52 ≤ q) (near : N
   -- w * p + q * p is at most (2 * q - 1) * p
   one-less : (c w : ℕ) → c ≤ w * p → w < q → (c + q * p) * (c + q * p) < 4 * n * (p * p)
   one-less c w h l =
-      square-le (c + q * p) (2 * q - 1) (4 * n) p (le-trans (keep (w * p) (q * p) h) (le-trans (le-of-eq (sym (add-mul w q p))) (mul-le-mul-right p (omega arith)))) (near .0) P
+      square-le (c + q * p) (2 * q - 1) (4 * n) p
+      (le-trans (keep (w * p) (q * p) h) (le-trans (le-of-eq (sym (add-mul w q p))) (mul-le-mul-right p (omega arith)))) (near .0) P
     where
       keep : (a b : ℕ) → c ≤ a → c + b ≤ a + b
       keep a b g = omega arith
@@ -60,7 +62,8 @@ module _ (n q p : ℕ) (large : 2 ^ 104 ≤ n) (wide-q : 2 ^ 52 ≤ q) (near : N
   above : (c : ℕ) → Beside p c → q * p < c → 4 * n * (p * p) < (c + q * p) * (c + q * p)
   above c (inl (w, e)) h =
       let m : q < w = lt-of-mul-lt-mul-right p (subst (λ (x : ℕ). q * p < x) e h) in
-      square-gt (c + q * p) (2 * q + 1) (4 * n) p (le-trans (mul-le-mul-right p (omega arith)) (le-of-eq (add-mul w q p ∙ ap (λ (x : ℕ). x + q * p) (sym e)))) (near .1) P
+      square-gt (c + q * p) (2 * q + 1) (4 * n) p
+      (le-trans (mul-le-mul-right p (omega arith)) (le-of-eq (add-mul w q p ∙ ap (λ (x : ℕ). x + q * p) (sym e)))) (near .1) P
   above c (inr l) h = absurd (lt-irrefl c (lt-of-lt-of-le l (le-trans (mul-le-mul-right p wide-q) (le-of-lt h))))
 
 -- ---- from counts to fractions: s is S in units of 1 / d, and N is x in units of 1 / d ^ 2
@@ -147,7 +150,8 @@ module _ (x : Float) (a g : ℕ) (w : Wide x a g) (most : g ≤ 2097) where
   least : den r ≤ num r * 2 ^ 537
   least =
       le-of-mul-le-mul-right
-      (le-trans (le-of-eq (mul-comm (den r) (2 ^ 537))) (le-trans (mul-le-mul-right (den r) large) (le-of-eq (sym cross-r ∙ sym (mul-assoc (num r) (2 ^ 537) (2 ^ 537))))))
+      (le-trans (le-of-eq (mul-comm (den r) (2 ^ 537)))
+      (le-trans (mul-le-mul-right (den r) large) (le-of-eq (sym cross-r ∙ sym (mul-assoc (num r) (2 ^ 537) (2 ^ 537))))))
       (pow-pos 537)
 
   own : HasValue r false (num r) (den r)
@@ -180,12 +184,13 @@ module _ (x : Float) (a g : ℕ) (w : Wide x a g) (most : g ≤ 2097) where
         (above n q (2 ^ k) (scaled-lo a g (w .lo) (w .hi)) (root-lo a g (w .lo) (w .hi)) (root-near a g (w .lo) (w .hi)) (pow-pos k) b (c .beside k)
         (cross-lt (num r) (den r) (m * up e) (down e) (q * 2 ^ k) b (2 ^ 1074) cross-r (c .value) (pow-pos 1074) h)))
 
-  from-below : (y : Float) → T (fits binary64 y) → T (finite y) → T (lt y r) → midpoint x y r < rootTwice x y r
+  from-below : (y : Float) → T (fits binary64 y) → T (finite y) → T (lt y r) → sumSquared x y r < fourTimes x y r
   from-below nan f h l = absurd h
   from-below (inf s) f h l = absurd h
   from-below (fin false m e) f h l =
       sum-below m e (counted false m e f)
-      (ltb→lt (m * up e * den r) (num r * down e) (rw (lt-values false false (m * up e) (down e) (num r) (den r) (down-pos e) (den-pos r) (fin false m e) r (refl, refl) own) at l))
+      (ltb→lt (m * up e * den r) (num r * down e)
+      (rw (lt-values false false (m * up e) (down e) (num r) (den r) (down-pos e) (den-pos r) (fin false m e) r (refl, refl) own) at l))
   from-below (fin true m e) f h l = lt-of-le-of-lt (mul-le-mul-right (den x) (mul-le-mul le le)) (sum-below 0 e (counted-zero e) some)
     where
       at-most : (u v t s : ℕ) → v - u ≤ 0 * t * s + v
@@ -200,36 +205,51 @@ module _ (x : Float) (a g : ℕ) (w : Wide x a g) (most : g ≤ 2097) where
       some : 0 * up e * den r < num r * down e
       some = nothing (up e) (den r) (num r * down e) (mul-pos (first-pos (num r) (2 ^ 537) (lt-of-lt-of-le (den-pos r) least)) (down-pos e))
 
-  from-above : (y : Float) → T (fits binary64 y) → T (finite y) → T (lt r y) → rootTwice x y r < midpoint x y r
+  from-above : (y : Float) → T (fits binary64 y) → T (finite y) → T (lt r y) → fourTimes x y r < sumSquared x y r
   from-above nan f h l = absurd h
   from-above (inf s) f h l = absurd h
-  from-above (fin true m e) f h l = absurd (rw (lt-values false true (num r) (den r) (m * up e) (down e) (den-pos r) (down-pos e) r (fin true m e) own (refl, refl)) at l)
+  from-above (fin true m e) f h l =
+      absurd (rw (lt-values false true (num r) (den r) (m * up e) (down e) (den-pos r) (down-pos e) r (fin true m e) own (refl, refl)) at l)
   from-above (fin false m e) f h l =
       sum-above m e (counted false m e f)
-      (ltb→lt (num r * down e) (m * up e * den r) (rw (lt-values false false (num r) (den r) (m * up e) (down e) (den-pos r) (down-pos e) r (fin false m e) own (refl, refl)) at l))
+      (ltb→lt (num r * down e) (m * up e * den r)
+      (rw (lt-values false false (num r) (den r) (m * up e) (down e) (den-pos r) (down-pos e) r (fin false m e) own (refl, refl)) at l))
 
   is-root : IsRoot x r
   is-root = record {
     above-zero = above-zero;
     held = root-fits a g (w .lo) (w .hi) most;
-    least = least;
     from-below = from-below;
     from-above = from-above;
   }
 
+-- what holds of the root of every finite value above zero at its full width
+at-width : (P : Float → Float → Type 0) → ((x : Float) (a g : ℕ) → Wide x a g → g ≤ 2097 → P x (rootWide a g))
+    → (x : Float) → T (fits binary64 x) → T (positive x) → P x (sqrt x)
+at-width P is nan f p = absurd p
+at-width P is (inf s) f p = absurd p
+at-width P is (fin true m e) f p = absurd p
+at-width P is (fin false zero e) f p = absurd p
+at-width P is (fin false (suc m) e) f p = at (fin false (suc m) e) _ _ (wide m e f) f
+  where
+    at : (x : Float) (a g : ℕ) → Wide x a g → T (fits binary64 x) → P x (sqrt x)
+    at x a g w f = subst (P x) (sym (sqrt-wide a g x f w)) (is x a g w (wide-top a g x f w))
+
 -- the square root of every finite value above zero
 pub sqrt-is-root : (x : Float) → T (fits binary64 x) → T (positive x) → IsRoot x (sqrt x)
-sqrt-is-root nan f p = absurd p
-sqrt-is-root (inf s) f p = absurd p
-sqrt-is-root (fin true m e) f p = absurd p
-sqrt-is-root (fin false zero e) f p = absurd p
-sqrt-is-root (fin false (suc m) e) f p = at (fin false (suc m) e) _ _ (wide m e f) f
-  where
-    at : (x : Float) (a g : ℕ) → Wide x a g → T (fits binary64 x) → IsRoot x (sqrt x)
-    at x a g w f = subst (IsRoot x) (sym (sqrt-wide a g x f w)) (is-root x a g w (wide-top a g x f w))
+sqrt-is-root = at-width IsRoot is-root
+
+-- it is at least 2 ^ -537: never subnormal
+pub sqrt-least : (x : Float) → T (fits binary64 x) → T (positive x) → den (sqrt x) ≤ num (sqrt x) * 2 ^ 537
+sqrt-least = at-width (λ x r. den r ≤ num r * 2 ^ 537) least
 
 -- and of every other value
-pub sqrt-elsewhere : (sqrt nan ≡ nan) × (sqrt (inf false) ≡ inf false) × (sqrt (inf true) ≡ nan) × ((s : Bool) (e : ℤ) → sqrt (fin s 0 e) ≡ fin s 0 e) × ((m : ℕ) (e : ℤ) → sqrt (fin true (suc m) e) ≡ nan)
+pub sqrt-elsewhere :
+    (sqrt nan ≡ nan)
+    × (sqrt (inf false) ≡ inf false)
+    × (sqrt (inf true) ≡ nan)
+    × ((s : Bool) (e : ℤ) → sqrt (fin s 0 e) ≡ fin s 0 e)
+    × ((m : ℕ) (e : ℤ) → sqrt (fin true (suc m) e) ≡ nan)
 unfolding sqrt
 sqrt-elsewhere = (refl, refl, refl, (λ s e. refl), λ m e. refl)
 
@@ -251,11 +271,12 @@ not-less x m e n d p q h =
     let r = fin false m e in
     let s = fin false n d in
     let l : T (lt r s) = lt→ltb (m * up e * down d) (n * up d * down e) h in
-    let i : midpoint x r s < rootTwice x r s = q .from-below r (p .held) tt l in
-    let j : rootTwice x s r < midpoint x s r = p .from-above s (q .held) tt l in
+    let i : sumSquared x r s < fourTimes x r s = q .from-below r (p .held) tt l in
+    let j : fourTimes x s r < sumSquared x s r = p .from-above s (q .held) tt l in
     both (m * up e) (down e) (n * up d) (down d) (num x) (den x) i j
   where
-    both : (a u b v c w : ℕ) → (a * v + b * u) * (a * v + b * u) * w < 4 * c * (u * v * (u * v)) → 4 * c * (v * u * (v * u)) < (b * u + a * v) * (b * u + a * v) * w → ⊥
+    both : (a u b v c w : ℕ) → (a * v + b * u) * (a * v + b * u) * w < 4 * c * (u * v * (u * v))
+        → 4 * c * (v * u * (v * u)) < (b * u + a * v) * (b * u + a * v) * w → ⊥
     both a u b v c w i j = omega arith
 
 pub root-unique : (x r s : Float) → IsRoot x r → IsRoot x s → r ≡ s

@@ -10,6 +10,7 @@ pub mod Root
 pub mod Count
 pub mod Width
 pub mod Ieee754
+pub mod Rounds
 pub mod SqrtOrder
 pub mod Quick
 pub mod Bounds

@@ -3,7 +3,7 @@ use mathlib.Core.Path.{_≡_, refl, sym, ap, _∙_}
 use Prim.Native.Nat.{ℕ, suc, _+_, _*_, _^_, _≤_, _<_}
 use native.Mathlib.Nat.{le-trans, le-of-eq, le-antisymm, lt-of-lt-of-le, lt-of-le-of-lt, lt-of-not-le, not-le-of-lt, mul-le-mul-right, mul-assoc}
 use native.Mathlib.Omega.{arith}
-use lib.Pow.{pow-add, pow-mono, shl-lt}
+use lib.Pow.{pow-add, pow-mono, pow-lt, shl-lt}
 use lib.Ieee.{size}
 use lib.Ieee.Digits.{size-lt, size-le}
 
@@ -12,6 +12,12 @@ apart w i j k e = ap (λ n. w * 2 ^ n) e ∙ ap (λ n. w * n) (pow-add 2 j k) �
 
 pub power-lt : (i j : ℕ) → 2 ^ i < 2 ^ j → i < j
 power-lt i j h = lt-of-not-le (λ g. not-le-of-lt h (pow-mono g))
+
+pub power-le : (i j : ℕ) → 2 ^ i ≤ 2 ^ j → i ≤ j
+power-le i j h = le-of-not-lt (λ g. not-le-of-lt (pow-lt g) h)
+  where
+    le-of-not-lt : {a b : ℕ} → (b < a → ⊥) → a ≤ b
+    le-of-not-lt h = omega arith
 
 pub size-is : (n p : ℕ) → 2 ^ p ≤ n → n < 2 ^ suc p → size n ≡ suc p
 size-is n p lo hi = le-antisymm (size-le n (suc p) hi) (power-lt p (size n) (lt-of-le-of-lt lo (size-lt n)))

@@ -1,5 +1,5 @@
--- The whole root. `rootFrom` finds the one number whose square is at most n while the next one's is above it, and `nearestRoot` is that number or the next:
--- the one on whose either side the midpoint's square lies beyond n. Assumes nothing.
+-- The whole root. `rootFrom` finds the one number whose square is at most n while the next one's is above it, and `nearestRoot` is that
+-- number or the next: the one on whose either side the midpoint's square lies beyond n. Assumes nothing.
 use mathlib.Core.Path.{_≡_, sym, ap, _∙_, subst}
 use Prim.Native.Nat.{ℕ, zero, suc, _+_, _-_, _*_, _^_, _≤_, _<_, zero-le}
 use native.Mathlib.Nat.{lt-of-le-of-lt, le-antisymm, le-of-suc-le-suc, lt-of-not-le, not-le-of-lt, mul-le-mul, two-pow-succ}
@@ -21,7 +21,7 @@ lt-of-squares a b h = lt-of-not-le (λ (g : b ≤ a). not-le-of-lt h (mul-le-mul
 floor-le : (n r s : ℕ) → Floor n r → Floor n s → r ≤ s
 floor-le n r s f g = le-of-suc-le-suc (lt-of-squares r (suc s) (lt-of-le-of-lt (f .0) (g .1)))
 
-floor-unique : (n r s : ℕ) → Floor n r → Floor n s → r ≡ s
+pub floor-unique : (n r s : ℕ) → Floor n r → Floor n s → r ≡ s
 floor-unique n r s f g = le-antisymm (floor-le n r s f g) (floor-le n s r g f)
 
 rootFrom-floor : (k n c : ℕ) → c * c ≤ n → n < (c + 2 ^ k) * (c + 2 ^ k) → Floor n (rootFrom k n c)
@@ -35,7 +35,8 @@ rootFrom-floor (suc k) n c lo hi = go (leb (d * d) n) (leb→le (d * d) n) (nleb
     twice : (x : ℕ) → c + (x + x) ≡ c + x + x
     twice x = omega arith
 
-    go : (t : Bool) → (T t → d * d ≤ n) → (T (not t) → n < d * d) → ((e : ℕ) → e * e ≤ n → n < (e + 2 ^ k) * (e + 2 ^ k) → Floor n (rootFrom k n e)) → Floor n (rootFrom k n (cond t d c))
+    go : (t : Bool) → (T t → d * d ≤ n) → (T (not t) → n < d * d)
+        → ((e : ℕ) → e * e ≤ n → n < (e + 2 ^ k) * (e + 2 ^ k) → Floor n (rootFrom k n e)) → Floor n (rootFrom k n (cond t d c))
     go true h g ih = ih d (h tt) (subst (λ (x : ℕ). n < x * x) (ap (λ (x : ℕ). c + x) (two-pow-succ k) ∙ twice (2 ^ k)) hi)
     go false h g ih = ih c lo (g tt)
 
@@ -44,7 +45,7 @@ abbrev pub Near : ℕ → ℕ → Type 0
 Near n q = ((2 * q - 1) * (2 * q - 1) < 4 * n) × (4 * n < (2 * q + 1) * (2 * q + 1))
 
 module _ (k n : ℕ) (small : n < 2 ^ k * 2 ^ k) where
-  root-floor : Floor n (rootFrom k n 0)
+  pub root-floor : Floor n (rootFrom k n 0)
   root-floor = rootFrom-floor k n 0 zero-le (from-zero (2 ^ k) small)
     where
       from-zero : (x : ℕ) → n < x * x → n < (0 + x) * (0 + x)

@@ -1,5 +1,5 @@
--- A value above zero at the full width of binary64: a * 2 ^ g in units of 2 ^ -1126, where a has 53 digits. Every value has one such form, and `sqrt` is a function of it.
--- Assumes nothing.
+-- A value above zero at the full width of binary64: a * 2 ^ g in units of 2 ^ -1126, where a has 53 digits. Every value has one such form,
+-- and `sqrt` is a function of it. Assumes nothing.
 use mathlib.Core.Path.{_≡_, refl, sym, ap, _∙_}
 use Prim.Native.Nat.{ℕ, zero, suc, _+_, _-_, _*_, _/_, _%_, _^_, _≤_, _<_}
 use native.Mathlib.Nat.{le-of-eq, lt-of-lt-of-le, lt-of-le-of-lt, zero-lt-suc, mul-pos, mul-lt-mul-of-pos-right, lt-of-mul-lt-mul-right, mul-right-comm, eq-of-mul-eq-mul-right}
@@ -28,7 +28,7 @@ pub moved : (m h z : ℕ) → z ≤ 52 → m * 2 ^ z * 2 ^ (h + 52 - z) ≡ m * 
 moved m h z l = sym (apart m (h + 52) z (h + 52 - z) (omega arith)) ∙ apart m (h + 52) h 52 refl
 
 -- the digits that m lacks
-abbrev short : ℕ → ℕ
+abbrev pub short : ℕ → ℕ
 short m = 53 - size m
 
 pub wide : (m : ℕ) (e : ℤ) → T (fits binary64 (fin false (suc m) e)) → Wide (fin false (suc m) e) (suc m * 2 ^ short (suc m)) (height e + 52 - short (suc m))
@@ -42,7 +42,9 @@ wide m e f =
     record {
       lo = shifted-ge n j (short n) (t .2) (t .3) 52 k;
       hi = shifted-lt n j (short n) (t .2) (t .3) 52 k;
-      value = rw (moved n (height e) (short n) (omega arith), height-is e) (scale (fin false n e) false (n * 2 ^ rise binary64 e) (2 ^ 1074) (2 ^ 52) (count binary64 false n e f));
+      value =
+          rw (moved n (height e) (short n) (omega arith), height-is e)
+          (scale (fin false n e) false (n * 2 ^ rise binary64 e) (2 ^ 1074) (2 ^ 52) (count binary64 false n e f));
     }
 
 form-unique : (a g b k : ℕ) → 2 ^ 52 ≤ a → a < 2 ^ 53 → 2 ^ 52 ≤ b → b < 2 ^ 53 → a * 2 ^ g ≡ b * 2 ^ k → (a ≡ b) × (g ≡ k)
@@ -51,6 +53,16 @@ form-unique a g b k la ha lb hb h =
       eq-of-mul-eq-mul-right (2 ^ g) (pow-pos g) a b (h ∙ ap (λ (x : ℕ). b * 2 ^ x) (sym e)),
       e,
     )
+
+-- the one form of a value
+pub wide-form : (m : ℕ) (e : ℤ) (a g : ℕ) → T (fits binary64 (fin false (suc m) e)) → Wide (fin false (suc m) e) a g
+    → (suc m * 2 ^ short (suc m) ≡ a) × (height e + 52 - short (suc m) ≡ g)
+wide-form m e a g f w =
+    let v = wide m e f in
+    let n = suc m * 2 ^ short (suc m) in
+    let k = height e + 52 - short (suc m) in
+    let same = sym (v .value .1) ∙ w .value .1 in
+    form-unique n k a g (v .lo) (v .hi) (w .lo) (w .hi) (eq-of-mul-eq-mul-right (down e) (down-pos e) (n * 2 ^ k) (a * 2 ^ g) same)
 
 -- the root's digits, for a * 2 ^ g: the parity of g goes to the number, so that half of what is left is whole
 abbrev pub scaled : ℕ → ℕ → ℕ
@@ -67,11 +79,10 @@ module _ (a g : ℕ) where
   sqrt-wide (fin s zero e) f w = absurd (not-zero s e false (a * 2 ^ g) (2 ^ 1126) (mul-pos (lt-of-lt-of-le (lit< tt) (w .lo)) (pow-pos g)) (w .value))
   sqrt-wide (fin true (suc m) e) f w = absurd (true≢false (w .value .0))
   sqrt-wide (fin false (suc m) e) f w =
-      let v = wide m e f in
       let n = suc m in
       let z = short n in
       let k = height e + 52 - z in
-      let u = form-unique (n * 2 ^ z) k a g (v .lo) (v .hi) (w .lo) (w .hi) (eq-of-mul-eq-mul-right (down e) (down-pos e) (n * 2 ^ z * 2 ^ k) (a * 2 ^ g) (sym (v .value .1) ∙ w .value .1)) in
+      let u = wide-form m e a g f w in
       unfold rootOf in (
       sym (odd-shift 54 false (nearestRoot 53 (n * 2 ^ (z + 52 + k % 2))) (k / 2) 589 485)
       ∙ ap (λ (x : ℕ). odd 54 false (nearestRoot 53 x) (k / 2 + 485) 1074) (regroup n z (k % 2))
@@ -88,7 +99,8 @@ module _ (a g : ℕ) where
   wide-top (inf s) f w = absurd (w .value)
   wide-top (fin s m e) f w =
       let r = mul-lt-mul-of-pos-right (fitting binary64 s m e f .range) (pow-pos 1126) in
-      let l : a * 2 ^ g < 2 ^ 2150 = lt-of-mul-lt-mul-right (down e) (rw (← (w .value .1)) (lt-of-lt-of-le r (le-of-eq (mul-right-comm (2 ^ 1024) (down e) (2 ^ 1126))))) in
+      let s = lt-of-lt-of-le r (le-of-eq (mul-right-comm (2 ^ 1024) (down e) (2 ^ 1126))) in
+      let l : a * 2 ^ g < 2 ^ 2150 = lt-of-mul-lt-mul-right (down e) (rw (← (w .value .1)) s) in
       let h : 52 + g < 2150 = power-lt (52 + g) 2150 (lt-of-le-of-lt (shifted-ge a 52 g (w .lo) (w .hi) (52 + g) refl) l) in
       omega arith
 

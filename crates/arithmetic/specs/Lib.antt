@@ -1,5 +1,6 @@
--- The arithmetic that every definition is written over, and the square root. Definitions only.
+-- The arithmetic that every definition is written over, and the square root with its rounds. Definitions only.
 pub mod Numbers
 pub mod Sqrt
+pub mod Rounds
 pub mod Arith
 pub mod Nearest

@@ -1,5 +1,6 @@
--- What IEEE 754 asks of the square root r of a finite x above zero: of all values of the format r is the nearest to the root of x. Said by comparing squares, without the root. Definitions only.
-use Prim.Native.Nat.{ℕ, _+_, _-_, _*_, _^_, _≤_, _<_}
+-- What IEEE 754 asks of the square root r of a finite x above zero: of all values of the format r is the nearest to the root of x. Said by
+-- comparing squares, without the root. Definitions only.
+use Prim.Native.Nat.{ℕ, _+_, _-_, _*_, _<_}
 use mathlib.Core.Bool.{true, false}
 use lib.Dec.{T}
 use lib.Ieee.{Float, nan, inf, fin, binary64, fits, lt}
@@ -14,19 +15,17 @@ sumOver (fin false n d) r = num (fin false n d) * den r + num r * den (fin false
 sumOver (fin true n d) r = num r * den (fin true n d) - num (fin true n d) * den r
 
 -- (y + r) ^ 2 and 4 * x over the same denominators: the first is the smaller exactly where the midpoint of y and r, (y + r) / 2, lies below the root of x
-abbrev pub midpoint : Float → Float → Float → ℕ
-midpoint x y r = sumOver y r * sumOver y r * den x
+abbrev pub sumSquared : Float → Float → Float → ℕ
+sumSquared x y r = sumOver y r * sumOver y r * den x
 
-abbrev pub rootTwice : Float → Float → Float → ℕ
-rootTwice x y r = 4 * num x * (den y * den r * (den y * den r))
+abbrev pub fourTimes : Float → Float → Float → ℕ
+fourTimes x y r = 4 * num x * (den y * den r * (den y * den r))
 
 pub record IsRoot (x r : Float) : Type 0 where
   -- r is finite, above zero and a value of the format: no overflow
   pub above-zero : T (positive r)
   pub held : T (fits binary64 r)
-  -- r is at least 2 ^ -537: never subnormal
-  pub least : den r ≤ num r * 2 ^ 537
-  -- every finite value of the format below r has its midpoint with r below the root, and every one above r has it above the root: r is nearer to the root than
-  -- any other value, and none is as near, so there is no tie
-  pub from-below : (y : Float) → T (fits binary64 y) → T (finite y) → T (lt y r) → midpoint x y r < rootTwice x y r
-  pub from-above : (y : Float) → T (fits binary64 y) → T (finite y) → T (lt r y) → rootTwice x y r < midpoint x y r
+  -- every finite value of the format below r has its midpoint with r below the root, and every one above r has it above the root: r is
+  -- nearer to the root than any other value, and none is as near, so there is no tie
+  pub from-below : (y : Float) → T (fits binary64 y) → T (finite y) → T (lt y r) → sumSquared x y r < fourTimes x y r
+  pub from-above : (y : Float) → T (fits binary64 y) → T (finite y) → T (lt r y) → fourTimes x y r < sumSquared x y r

@@ -5,7 +5,8 @@ use lib.IntN.{ℤ, pos, negsuc}
 use lib.Dec.{leb, ltb}
 use lib.Ieee.{Float, nan, inf, fin, size, odd}
 
--- The largest whole number below c + 2 ^ k whose square is at most n, where c's own square is: its k last binary digits, each a 1 where the square stays within n.
+-- The largest whole number below c + 2 ^ k whose square is at most n, where c's own square is: its k last binary digits, each a 1 where the
+-- square stays within n.
 unfoldable pub rootFrom : ℕ → ℕ → ℕ → ℕ
 rootFrom zero n c = c
 rootFrom (suc k) n c = let d = c + 2 ^ k in rootFrom k n (cond (leb (d * d) n) d c)
@@ -21,11 +22,17 @@ abbrev pub height : ℤ → ℕ
 height (pos k) = 1074 + k
 height (negsuc k) = 1073 - k
 
--- The root of m * 2 ^ (h - 1074), where m has 53 - z digits. m * 2 ^ z has the full width of 53 digits, and 2 ^ (52 + g % 2) more makes a whole number of 105 or 106,
--- whose root has 53, with an even exponent left: 2 * (g / 2) - 2 * 589.
+-- The root of x = m * 2 ^ (h - 1074), where m has 53 - z binary digits, by that of a whole number N. N is x times an even power of two, and
+-- has 105 or 106 digits, so that its root has 53, the format's width, and the rounding to a whole number is the only one.
+-- z places give m the width of 53; the exponent is g - 1126 then, where 1126 = 1074 + 52 keeps g from falling below 0. 52 places more make
+-- the width 105, and one more where g is odd leaves an even exponent: x is N * 2 ^ (2 * (g / 2) - 2 * 589), since 2 * 589 = 1126 + 52.
+-- `odd 54` writes the nearest root times 2 ^ (g / 2 - 589) with an odd m: room enough, since that root is at most 2 ^ 53.
 unfoldable pub rootOf : ℕ → ℕ → ℕ → Float
 unfolding nearestRoot odd
-rootOf m h z = let g = h + 52 - z in odd 54 false (nearestRoot 53 (m * 2 ^ (z + 52 + g % 2))) (g / 2) 589
+rootOf m h z =
+    let g = h + 52 - z in
+    let N = m * 2 ^ (z + 52 + g % 2) in
+    odd 54 false (nearestRoot 53 N) (g / 2) 589
 
 -- -0 gives -0, a negative number gives NaN, and +infinity itself.
 unfoldable pub sqrt : Float → Float

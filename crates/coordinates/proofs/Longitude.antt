@@ -52,7 +52,9 @@ difference m e h = go (ltb a b) (nltb→le a b)
     size s k l = round-within binary64 s k c 180 1 C (lit< tt) (omega arith) tt
 
     lower : T (lt (round binary64 true (b - a) c) 180·0)
-    lower = rw (← neg-round binary64 false (b - a) c) (below-zero (round binary64 false (b - a) c) (within-finite (size false (b - a) (sub-le b a))) (round-clear binary64 (b - a) c))
+    lower =
+        rw (← neg-round binary64 false (b - a) c)
+        (below-zero (round binary64 false (b - a) c) (within-finite (size false (b - a) (sub-le b a))) (round-clear binary64 (b - a) c))
 
     upper : b ≤ a → Within (round binary64 false (a - b) c) (fin false (180 * 2 ^ 44 - 1) (negsuc 43))
     upper l = round-within binary64 false (a - b) c (180 * 2 ^ 44 - 1) (2 ^ 44) C (lit< tt) (omega arith) tt
@@ -68,7 +70,9 @@ from-count nan a v l = absurd v
 from-count (inf s) a v l = absurd v
 from-count (fin true m e) a v l = absurd (true≢false (v .0))
 from-count (fin false m e) a v l =
-    difference m e (sizes (of-values (fin false m e) last false a (2 ^ 1074) ((360 * 2 ^ 44 - 1) * 2 ^ 1030) (2 ^ 1074) (pow-pos 1074) (pow-pos 1074) v (refl, refl) (mul-le-mul-right (2 ^ 1074) l)))
+    let most = (360 * 2 ^ 44 - 1) * 2 ^ 1030 in
+    let P = pow-pos 1074 in
+    difference m e (sizes (of-values (fin false m e) last false a (2 ^ 1074) most (2 ^ 1074) P P v (refl, refl) (mul-le-mul-right (2 ^ 1074) l)))
 
 turn-fits : T (fits binary64 360·0)
 unfolding fits ofBits

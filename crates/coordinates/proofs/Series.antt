@@ -1,6 +1,7 @@
--- Over whole numbers the authalic recurrence is the sum of coefficient times term (`sum-of-terms`), and the Rust's steps are not (`rust-is-not-the-sum`). Assumes nothing.
--- The idea is Clenshaw's. The recurrence passes the coefficients from the last to the first and keeps two numbers, p and the q before it. When those from term n + 1 on are
--- passed, p · term (n + 1) − q · term n is their sum (`passed`), by the terms' own rule. When all are passed, n is 0, and that is p.
+-- Over whole numbers the authalic recurrence is the sum of coefficient times term (`sum-of-terms`), and the Rust's steps are not
+-- (`rust-is-not-the-sum`). Assumes nothing. The idea is Clenshaw's. The recurrence passes the coefficients from the last to the first and
+-- keeps two numbers, p and the q before it. When those from term n + 1 on are passed, p · term (n + 1) − q · term n is their sum
+-- (`passed`), by the terms' own rule. When all are passed, n is 0, and that is p.
 use mathlib.Core.Path.{_≡_, refl, sym, _∙_, ap}
 use mathlib.Core.List.{List, [], _∷_}
 use Prim.Native.Nat.{ℕ, suc}

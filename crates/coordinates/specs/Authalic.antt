@@ -7,8 +7,9 @@ use Rattle.elementary.specs.Sine.{sinCos}
 use Rattle.coordinates.specs.Constants.{2·0, GEODETIC-TO-AUTHALIC, AUTHALIC-TO-GEODETIC}
 use Rattle.coordinates.specs.declared.base.Radians.{Radians}
 
--- The five steps of the recurrence for Karney's six-term series, over any numbers: the multiplier x and the coefficients c[0] .. c[5]. They are the Rust's but for the second, which
--- "reads x·u0 − c[5] + c[3] from left to right" (Paper 8); u0 is s1 here. Over whole numbers they are the series' sum (`Series`).
+-- The five steps of the recurrence for Karney's six-term series, over any numbers: the multiplier x and the coefficients c[0] .. c[5]. They
+-- are the Rust's but for the second, which "reads x·u0 − c[5] + c[3] from left to right" (Paper 8); u0 is s1 here. Over whole numbers they
+-- are the series' sum (`Series`).
 module _ {X : Type 0} (_⊕_ _⊖_ _⊗_ : X → X → X) where
   infixl 60 _⊕_ _⊖_
   infixl 70 _⊗_

@@ -11,7 +11,7 @@ pub record HalfTurns (r : Float) : Type 0 where
   pub least : T (le (neg 180·0) r)
   pub below : T (lt r 180·0)
 
--- Document 01: "`normalize_longitude` lands in [−180, 180) for every finite input; 180 gives −180". An input is a value that f64 holds; the second half is a marked point
--- (crate known_points).
+-- Document 01: "`normalize_longitude` lands in [−180, 180) for every finite input; 180 gives −180". An input is a value that f64 holds; the
+-- second half is a marked point (crate known_points).
 abbrev pub LongitudeRange : Type 0
 LongitudeRange = (x : Float) → T (fits binary64 x) → T (finite x) → HalfTurns (normalizeLongitude ieee (degrees x) .0)

@@ -20,7 +20,8 @@ unfoldable pub sum : List ℤ → ℤ
 sum [] = pos 0
 sum (a ∷ rest) = a +ℤ sum rest
 
--- "For every six coefficients and every multiplier, the recurrence equals the sum of coefficient times term. .. The coefficients go with terms one to six."
+-- "For every six coefficients and every multiplier, the recurrence equals the sum of coefficient times term. .. The coefficients go with
+-- terms one to six."
 abbrev pub SumOfTerms : Type 0
 SumOfTerms =
     (x c0 c1 c2 c3 c4 c5 : ℤ) →
@@ -35,8 +36,8 @@ rustRecurrence x c0 c1 c2 c3 c4 c5 =
     let s4 = x *ℤ s3 -ℤ s2 +ℤ c1 in
     x *ℤ s4 -ℤ s3 +ℤ c0
 
--- They are not that sum. With the multiplier 1 and the coefficients 0, 0, 0, 0, 0, 1 they give −1, and the sum is 0. No smaller numbers show it: where the multiplier
--- or the sixth coefficient is 0, they are the sum.
+-- They are not that sum. With the multiplier 1 and the coefficients 0, 0, 0, 0, 0, 1 they give −1, and the sum is 0. No smaller numbers
+-- show it: where the multiplier or the sixth coefficient is 0, they are the sum.
 pub record RustIsNotTheSum : Type 0 where
   pub not-the-sum :
       ((x c0 c1 c2 c3 c4 c5 : ℤ) → rustRecurrence x c0 c1 c2 c3 c4 c5 ≡ sum (products x 1 (c0 ∷ c1 ∷ c2 ∷ c3 ∷ c4 ∷ c5 ∷ []))) → ⊥

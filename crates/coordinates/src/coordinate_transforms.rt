@@ -11,7 +11,8 @@ use crate::polar::Polar;
 use crate::spherical::Spherical;
 use crate::vec2::Vec2;
 use crate::vec3::Vec3;
-use elementary::arctangent::atan2;
+use elementary::arctangent::atan2_and_sqrt;
+use elementary::arctangent::atan2_both;
 use elementary::sine::sin_cos_inside;
 use remainder::remainder;
 use square_root::root::sqrt;
@@ -27,28 +28,35 @@ const PI: f64 = 3.141592653589793;
 
 const FRAC_PI_2: f64 = 1.5707963267948966;
 
+// Degrees as radians.
 pub fn deg_to_rad(deg: Degrees) -> Radians
     ensures { λ r. ⌜ r ≡ degToRad ieee deg ⌝ }
 {
     Radians(deg.0 * (PI / 180.0))
 }
 
+// Radians as degrees.
 pub fn rad_to_deg(rad: Radians) -> Degrees
     ensures { λ r. ⌜ r ≡ radToDeg ieee rad ⌝ }
 {
     Degrees(rad.0 * (180.0 / PI))
 }
 
+// A face point by its distance from the origin and its angle. Root and arc tangent do not wait for
+// each other, and are found together.
 pub fn to_polar(face: Face) -> Polar
     ensures { λ r. ⌜ r ≡ toPolar ieee face ⌝ }
 {
     let x = face.0.x;
     let y = face.0.y;
-    let rho = sqrt(x * x + y * y);
-    let gamma = Radians(atan2(y, x));
-    Polar { rho, gamma }
+    let found = atan2_and_sqrt(y, x, x * x + y * y);
+    Polar {
+        rho: found.root,
+        gamma: Radians(found.angle),
+    }
 }
 
+// The face point at a distance and an angle.
 pub fn to_face(polar: Polar) -> Face
     requires { ⌜ outside (polar .gamma .0) ≡ false ⌝ }
     ensures { λ r. ⌜ r ≡ toFace ieee polar ⌝ }
@@ -60,6 +68,7 @@ pub fn to_face(polar: Polar) -> Face
     Face(Vec2 { x, y })
 }
 
+// A face point by its weights at the triangle's corners.
 pub fn face_to_barycentric(p: Face, triangle: FaceTriangle) -> Barycentric
     ensures { λ r. ⌜ r ≡ faceToBarycentric ieee p triangle ⌝ }
 {
@@ -86,6 +95,7 @@ pub fn face_to_barycentric(p: Face, triangle: FaceTriangle) -> Barycentric
     }
 }
 
+// The face point of three weights at the triangle's corners.
 pub fn barycentric_to_face(bary: Barycentric, triangle: FaceTriangle) -> Face
     ensures { λ r. ⌜ r ≡ barycentricToFace ieee bary triangle ⌝ }
 {
@@ -99,6 +109,8 @@ pub fn barycentric_to_face(bary: Barycentric, triangle: FaceTriangle) -> Face
     Face(Vec2 { x, y })
 }
 
+// A point of space by its two angles, theta from the x axis and phi from the z axis. The two arc
+// tangents are found together.
 pub fn to_spherical(cart: Cartesian) -> Spherical
     ensures { λ r. ⌜ r ≡ toSpherical ieee cart ⌝ }
 {
@@ -106,13 +118,16 @@ pub fn to_spherical(cart: Cartesian) -> Spherical
     let y = cart.0.y;
     let z = cart.0.z;
 
-    let theta = Radians(atan2(y, x));
     let rxy = sqrt(x * x + y * y);
-    let phi = Radians(atan2(rxy, z));
+    let angles = atan2_both(y, x, rxy, z);
 
-    Spherical { theta, phi }
+    Spherical {
+        theta: Radians(angles.first),
+        phi: Radians(angles.second),
+    }
 }
 
+// The point of the unit sphere at two angles.
 pub fn to_cartesian(spherical: Spherical) -> Cartesian
     requires { ⌜ (outside (spherical .theta .0) ≡ false) × (outside (spherical .phi .0) ≡ false) ⌝ }
     ensures { λ r. ⌜ r ≡ toCartesian ieee spherical ⌝ }

@@ -8,6 +8,7 @@ ghost use Rattle.arithmetic.specs.Arith.{ieee};
 ghost use Rattle.elementary.specs.Sine.{outside};
 ghost use Rattle.coordinates.specs.Gnomonic.{gnomonicForward, gnomonicInverse};
 
+// A direction to the plane's polar coordinates.
 pub fn forward(spherical: Spherical) -> Polar
     requires { ⌜ outside (spherical .phi .0) ≡ false ⌝ }
     ensures { λ r. ⌜ r ≡ gnomonicForward ieee spherical ⌝ }
@@ -19,6 +20,7 @@ pub fn forward(spherical: Spherical) -> Polar
     }
 }
 
+// Polar coordinates of the plane to a direction.
 pub fn inverse(polar: Polar) -> Spherical
     ensures { λ r. ⌜ r ≡ gnomonicInverse ieee polar ⌝ }
 {

@@ -5,6 +5,7 @@ ghost use mathlib.Core.Path.{_≡_};
 ghost use Rattle.arithmetic.specs.Arith.{ieee};
 ghost use Rattle.coordinates.specs.Vector.{tripleProduct, length, subtract, vec3Distance, dot, cross, normalize, scale, scaleAndAdd};
 
+// a · (b × c)
 pub fn triple_product(a: Cartesian, b: Cartesian, c: Cartesian) -> f64
     ensures { λ r. ⌜ r ≡ tripleProduct ieee a b c ⌝ }
 {
@@ -13,12 +14,14 @@ pub fn triple_product(a: Cartesian, b: Cartesian, c: Cartesian) -> f64
         + a.0.z * (b.0.x * c.0.y - b.0.y * c.0.x)
 }
 
+// The vector's length.
 pub fn length(v: Cartesian) -> f64
     ensures { λ r. ⌜ r ≡ length ieee v ⌝ }
 {
     square_root::root::sqrt(v.0.x * v.0.x + v.0.y * v.0.y + v.0.z * v.0.z)
 }
 
+// a - b
 pub fn subtract(a: Cartesian, b: Cartesian) -> Cartesian
     ensures { λ r. ⌜ r ≡ subtract ieee a b ⌝ }
 {
@@ -29,18 +32,21 @@ pub fn subtract(a: Cartesian, b: Cartesian) -> Cartesian
     })
 }
 
+// The distance of two points.
 pub fn vec3_distance(a: Cartesian, b: Cartesian) -> f64
     ensures { λ r. ⌜ r ≡ vec3Distance ieee a b ⌝ }
 {
     length(subtract(a, b))
 }
 
+// a · b
 pub fn dot(a: Cartesian, b: Cartesian) -> f64
     ensures { λ r. ⌜ r ≡ dot ieee a b ⌝ }
 {
     a.0.x * b.0.x + a.0.y * b.0.y + a.0.z * b.0.z
 }
 
+// a × b
 pub fn cross(a: Cartesian, b: Cartesian) -> Cartesian
     ensures { λ r. ⌜ r ≡ cross ieee a b ⌝ }
 {
@@ -66,6 +72,7 @@ pub fn normalize(v: Cartesian) -> Cartesian
     })
 }
 
+// v * s
 pub fn scale(v: Cartesian, s: f64) -> Cartesian
     ensures { λ r. ⌜ r ≡ scale ieee v s ⌝ }
 {

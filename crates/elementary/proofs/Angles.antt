@@ -1,5 +1,5 @@
 -- What atan and atan2 come to at each way through the code. Assumes nothing.
-use mathlib.Core.Path.{_≡_, refl, ap, _∙_}
+use mathlib.Core.Path.{_≡_, refl, sym, ap, _∙_}
 use mathlib.Core.Bool.{Bool, true, false, _&&_}
 use lib.Ieee.{Float, nan, inf, fin, binary64, add, sub, mul, div, le, eq}
 use Rattle.answer.specs.Number.{isFinite}
@@ -7,7 +7,7 @@ use Rattle.arithmetic.specs.Arith.{ieee}
 use Rattle.arithmetic.specs.Numbers.{0·0}
 use Rattle.elementary.specs.Constants.{PI, FRAC-PI-2}
 use Rattle.square_root.specs.Signs.{abs, negative, withSign}
-use Rattle.elementary.specs.Arctangent.{core, atanSize, atan, atan2Base, atan2}
+use Rattle.elementary.specs.Arctangent.{core, atanSize, atan, tangent, atan2Base, atan2}
 
 pub and-first : (p q : Bool) → p ≡ false → (p && q) ≡ false
 and-first p q e = ap (λ (b : Bool). b && q) e
@@ -32,13 +32,26 @@ module _ (a b : Float) where
   unfolding atan2Base
   base-zero e f = rw (and-then _ _ _ e f, atan2Base)
 
-  pub base-low : (eq a 0·0 && eq b 0·0) ≡ false → le a b ≡ true → atan2Base ieee a b ≡ core ieee (div binary64 a b)
-  unfolding atan2Base
-  base-low e f = rw (e, atan2Base) (rw f)
+  pub tangent-low : le a b ≡ true → tangent ieee a b ≡ div binary64 a b
+  unfolding tangent
+  tangent-low f = rw (f, tangent)
 
-  pub base-high : (eq a 0·0 && eq b 0·0) ≡ false → le a b ≡ false → atan2Base ieee a b ≡ sub binary64 FRAC-PI-2 (core ieee (div binary64 b a))
-  unfolding atan2Base
-  base-high e f = rw (e, atan2Base) (rw f)
+  pub tangent-high : le a b ≡ false → tangent ieee a b ≡ div binary64 b a
+  unfolding tangent
+  tangent-high f = rw (f, tangent)
+
+  -- from the angle of the tangent
+  module _ (c : Float) (is : c ≡ core ieee (tangent ieee a b)) (some : (eq a 0·0 && eq b 0·0) ≡ false) where
+    pub base-low : le a b ≡ true → atan2Base ieee a b ≡ c
+    unfolding atan2Base
+    base-low f = rw (some, atan2Base) (rw f) ∙ ap (core ieee) (sym (tangent-low f)) ∙ sym is
+
+    pub base-high : le a b ≡ false → atan2Base ieee a b ≡ sub binary64 FRAC-PI-2 c
+    unfolding atan2Base
+    base-high f =
+        rw (some, atan2Base) (rw f)
+        ∙ ap (λ (t : Float). sub binary64 FRAC-PI-2 (core ieee t)) (sym (tangent-high f))
+        ∙ ap (sub binary64 FRAC-PI-2) (sym is)
 
 module _ (y x : Float) where
   pub atan2-nan : (isFinite y && isFinite x) ≡ false → atan2 ieee y x ≡ nan

@@ -37,6 +37,11 @@ module _ (A : Arith) where
   atan (inf s) = withSign s (atanSize (inf false))
   atan (fin s m e) = withSign s (atanSize (fin false m e))
 
+  -- what base's Core is of: the smaller of the two by the larger
+  unfoldable pub tangent : Float → Float → Float
+  unfolding le
+  tangent a b = elim (le a b) [ true ↦ a ⊘ b | false ↦ b ⊘ a ]
+
   -- "Base is +0 if both are zero, Core(abs y/abs x) if abs y ≤ abs x, else FRAC_PI_2 − Core(abs x/abs y)", for a = abs y and b = abs x
   unfoldable pub atan2Base : Float → Float → Float
   unfolding core le eq FRAC-PI-2

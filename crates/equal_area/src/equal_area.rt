@@ -2,6 +2,7 @@
 // goes to the face triangle by way of P, where the great circles through A and the point, and through
 // B and C, meet.
 use crate::spherical_polygon::spherical_triangle_area;
+use crate::spherical_polygon::spherical_triangle_area_and_sqrt;
 use answer::Refusal;
 use coordinates::coordinate_transforms::barycentric_to_face;
 use coordinates::coordinate_transforms::face_to_barycentric;
@@ -43,6 +44,7 @@ pub struct TriangleConstants {
     pub volume_abc: f64,
 }
 
+// Six numbers of the triangle, by their names in the Rust.
 pub struct AlphaTransform {
     pub c1c: f64,
     pub c2c: f64,
@@ -52,6 +54,7 @@ pub struct AlphaTransform {
     pub c2o: f64,
 }
 
+// The constants of a canonical triangle.
 pub fn compute_constants(triangle: SphericalTriangle) -> TriangleConstants
     ensures { λ r. ⌜ r ≡ computeConstants ieee triangle ⌝ }
 {
@@ -114,10 +117,12 @@ pub fn forward(
     let d = length(p);
     let p = scale(p, one_over(d));
 
-    let area = spherical_triangle_area(a, b, p);
-    let area_abp = max_zero(area.0);
+    // the area's arc tangent and rho's root do not wait for each other, and are found together
+    let ratio = (1.0 + dot(a, p)) / (1.0 + dot(a, v));
+    let found = spherical_triangle_area_and_sqrt(a, b, p, ratio);
+    let area_abp = max_zero(found.area.0);
     let alpha = area_abp / area_abc;
-    let rho = (d / volume_abc) * sqrt((1.0 + dot(a, p)) / (1.0 + dot(a, v)));
+    let rho = (d / volume_abc) * found.root;
 
     let b_coords = Barycentric {
         u: 1.0 - rho,

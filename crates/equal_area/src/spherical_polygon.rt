@@ -4,10 +4,12 @@ use coordinates::coords::Cartesian;
 use coordinates::vector::dot;
 use coordinates::vector::triple_product;
 use elementary::arctangent::atan2;
+use elementary::arctangent::atan2_and_sqrt;
 ghost use mathlib.Core.Path.{_≡_};
 ghost use mathlib.Core.Bool.{true};
 ghost use lib.Ieee.{binary64, ofBits};
 ghost use Rattle.arithmetic.specs.Arith.{ieee};
+ghost use Rattle.arithmetic.specs.Sqrt.{sqrt};
 ghost use Rattle.elementary.specs.Arctangent.{atan2};
 ghost use Rattle.equal_area.specs.SphericalPolygon.{sphericalTriangleArea};
 
@@ -34,9 +36,33 @@ fn half_area(triple: f64, norm: f64) -> f64
     atan2(triple, norm)
 }
 
+// The area, with the sign of the corners' order.
 pub fn spherical_triangle_area(v1: Cartesian, v2: Cartesian, v3: Cartesian) -> Radians
     ensures { λ r. ⌜ r ≡ sphericalTriangleArea ieee v1 v2 v3 ⌝ }
 {
     let norm = 1.0 + dot(v1, v2) + dot(v2, v3) + dot(v3, v1);
     Radians(2.0 * half_area(triple_product(v1, v2, v3), norm))
+}
+
+// An area, and the square root that is found beside it.
+pub struct AreaAndRoot {
+    pub area: Radians,
+    pub root: f64,
+}
+
+// The area, and the square root of x, which does not wait for it.
+pub fn spherical_triangle_area_and_sqrt(
+    v1: Cartesian,
+    v2: Cartesian,
+    v3: Cartesian,
+    x: f64,
+) -> AreaAndRoot
+    ensures { λ r. ⌜ (r .area ≡ sphericalTriangleArea ieee v1 v2 v3) × (r .root ≡ sqrt x) ⌝ }
+{
+    let triple = triple_product(v1, v2, v3);
+    let found = atan2_and_sqrt(triple, 1.0 + dot(v1, v2) + dot(v2, v3) + dot(v3, v1), x);
+    AreaAndRoot {
+        area: Radians(2.0 * found.angle),
+        root: found.root,
+    }
 }

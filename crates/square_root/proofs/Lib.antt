@@ -4,6 +4,4 @@ pub mod Mask
 pub mod Lead
 pub mod Digits
 pub mod Round
-pub mod Carried
 pub mod RootBits
-pub mod Guess

@@ -1,5 +1,5 @@
--- A comparison without a branch: of two numbers below 2 ^ 63 the sign bit of the wrapped difference says which is the larger, and 0 or 1 taken off 0 or 1 makes a mask of
--- zeros or ones. Assumes nothing.
+-- A comparison without a branch: of two numbers below 2 ^ 63 the sign bit of the wrapped difference says which is the larger, and 0 or 1
+-- taken off 0 or 1 makes a mask of zeros or ones. Assumes nothing.
 use mathlib.Core.Path.{_≡_, ap, _∙_}
 use Prim.Native.Nat.{ℕ, _+_, _-_, _/_, _%_, _^_, _≤_, _<_}
 use native.Mathlib.Nat.{mod-eq-of-lt}
@@ -40,3 +40,12 @@ module _ (y t d : ℕ) (Y : y < 2 ^ 63) (K : t < 2 ^ 63) (D : d < 2 ^ 64) (e : (
   -- v is kept where t is at most y
   pub kept : (s v : ℕ) → s < 2 ^ 64 → v < 2 ^ 64 → (s + 1) % 2 ^ 64 ≡ d / 2 ^ 63 → bitAnd v s ≡ cond (leb t y) v 0
   kept s v S l m = by-test t y v 0 (bitAnd v s) (λ g. all v s l (omega (arith, clear g .1))) (λ g. none v s (omega (arith, set g)))
+
+-- the two are at most r and y
+pub kept-le : (b : Bool) (r s : ℕ) → s ≡ cond b r 0 → s ≤ r
+kept-le true r s e = omega arith
+kept-le false r s e = omega arith
+
+pub reduced-le : (b : Bool) (y t d : ℕ) → d ≡ cond b (y - t) y → d ≤ y
+reduced-le true y t d e = omega arith
+reduced-le false y t d e = omega arith

@@ -1,4 +1,4 @@
-// The square root, and what document 01 says of signs. Each function is total and has no requires.
+// The square root, and what document 01 says of signs. Each public function is total and has no requires.
 pub mod parts;
 pub mod root;
 pub mod signs;

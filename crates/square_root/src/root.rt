@@ -1,11 +1,29 @@
-// IEEE 754's square root, in 64-bit words: a guess that is tested, and where it fails one binary digit of the root a round.
+// IEEE 754's square root, in 64-bit words: the root's binary digits, one a round from its first 1 on, until none is left or
+// those found are the exact root (Paper 2). The rounds run are a call of their own.
 ghost use mathlib.Core.Path.{_≡_};
-ghost use mathlib.Core.Bool.{true, false, cond};
+ghost use mathlib.Core.Bool.{false, cond};
 ghost use Prim.Native.Nat.{_-_, _*_, _^_, _≤_, _<_};
 ghost use lib.Dec.{leb};
 ghost use lib.Ieee.{binary64, ofBits};
-ghost use lib.Ieee.Exact.{HasValue};
+ghost use lib.Ieee.Positive.{positive};
+ghost use Rattle.arithmetic.specs.Rounds.{sqrtRounds};
 ghost use Rattle.arithmetic.specs.Sqrt.{nearestRoot, sqrt};
+ghost use Rattle.square_root.specs.Root.{Pattern, Radicand, Found, Ended, FoundBoth};
+
+// x's pattern where x is finite and above zero, else 0.
+fn pattern(x: f64) -> u64
+    ensures { λ b. ⌜ Pattern x b ⌝ }
+{
+    if x != x {
+        return 0;
+    }
+    let b = f64::to_bits(x);
+    // infinity's, or with the sign bit
+    if b >= 0x7ff0_0000_0000_0000 {
+        return 0;
+    }
+    b
+}
 
 // The value m * 2^h of the smallest ones, 2^-1074, as a * 2^g in units of 2^-1126, where a has the full width of 53 digits.
 struct Wide {
@@ -17,70 +35,32 @@ fn widened(m: u64, h: u64) -> Wide
     requires { ⌜ (0 < m) × (m < 2 ^ 53) × (h ≤ 2045) ⌝ }
     ensures { λ r. ⌜ (2 ^ 52 ≤ r .a) × (r .a < 2 ^ 53) × (r .g ≤ 2097) × (r .a * 2 ^ r .g ≡ m * 2 ^ h * 2 ^ 52) ⌝ }
 {
+    // all but the subnormals have it
+    if m >= 0x10_0000_0000_0000 {
+        return Wide { a: m, g: h + 52 };
+    }
     let z = (u64::leading_zeros(m) as u64) - 11;
-    Wide {
-        a: m << z,
-        g: h + 52 - z,
-    }
+    let a = m << z;
+    let g = h + 52 - z;
+    Wide { a, g }
 }
 
-// About the root's 53 digits, of the value with pattern b, or 0: three of Newton's steps for 1/√x and, from what its square
-// leaves of x, one for √x. Nothing rests on how near it comes but the time that `nearest_root` takes.
-fn guess(b: u64) -> u64
-    requires { ⌜ b < 2047 * 2 ^ 52 ⌝ }
-    ensures { λ q. ⌜ q < 2 ^ 53 ⌝ }
-{
-    let x = f64::from_bits(b);
-    let h = 0.5 * x;
-    // half the exponent, negated: near 1/√x
-    let y = f64::from_bits(0x5fe6_eb50_c7b5_37a9 - b / 2);
-    let y = y * (1.5 - h * y * y);
-    let y = y * (1.5 - h * y * y);
-    let y = y * (1.5 - h * y * y);
-    let s = x * y;
-    // the first half of s's digits, whose square is exact (Veltkamp)
-    let v = 134217729.0 * s;
-    let c = v - (v - s);
-    let s = s + ((x - c * c) - (s - c) * (s + c)) * (0.5 * y);
-    if s != s {
-        return 0;
-    }
-    0x10_0000_0000_0000 + f64::to_bits(s) % 0x10_0000_0000_0000
+// The value m * 4^e in units of 2^-1126, where m has 53 or 54 digits: an odd exponent gives the number one digit more.
+struct Number {
+    m: u64,
+    e: u64,
 }
 
-// Where true, q is the whole number nearest to the root of n, a * 2^52: no further from it than 1/2, so that q's square lies
-// within q of n. Where false, nothing is said. With q = h * 2^26 + l the square is h * h * 2^52 + h * l * 2^27 + l * l.
-fn is_nearest(a: u64, q: u64) -> bool
-    requires { ⌜ (a < 2 ^ 54) × (q < 2 ^ 53) ⌝ }
-    ensures { λ r. ⌜ (r ≡ true → q ≡ nearestRoot 53 (a * 2 ^ 52)) ⌝ }
+fn full_width(b: u64) -> Number
+    requires { ⌜ (0 < b) × (b < 2047 * 2 ^ 52) ⌝ }
+    ensures { λ r. ⌜ Radicand (ofBits binary64 b) (r .m) (r .e) ⌝ }
 {
-    let h = q >> 26;
-    let l = q % 0x400_0000;
-    let s = h * h;
-    if a < s {
-        return false;
+    let p = crate::parts::split(b);
+    let n = widened(p.m, p.h);
+    Number {
+        m: n.a << (n.g % 2),
+        e: n.g / 2,
     }
-    let u = a - s;
-    if u >= 0x4000_0000 {
-        return false;
-    }
-    // in units of 2^27, and 2^27 of them more, since the square may be above n
-    let v = (u << 25) + 0x800_0000;
-    let w = h * l;
-    if v < w {
-        return false;
-    }
-    let z = v - w;
-    if z >= 0x4000_0000 {
-        return false;
-    }
-    let t = z << 27;
-    let m = 0x40_0000_0000_0000 + l * l;
-    // n - q * q is t - m
-    if m >= t + q {
-        return false;
-    }
-    t <= m + q
 }
 
 // y - t, or y where t is above it. The sign bit of the difference makes a mask: no branch.
@@ -101,37 +81,134 @@ fn digit(y: u64, t: u64, r: u64) -> u64
     r & std::num::wrapping_sub_u64(d >> 63, 1)
 }
 
-// The whole number nearest to the root of a * 2^52, digit by digit. With q for the digits found and r for the weight
-// of the next, t is 4 * q + 2 * r, and y is four times what q's square leaves of a * 2^52, in units of
-// 2 * r, so that y stays below 2^57 and one word is enough. The next digit is 1 where y is at least t;
-// t itself is carried, so that a round waits for one comparison and two additions.
-fn by_digits(a: u64) -> u64
-    requires { ⌜ a < 2 ^ 54 ⌝ }
-    ensures { λ r. ⌜ r ≡ nearestRoot 53 (a * 2 ^ 52) ⌝ }
+// The digits of the root of m * 2^52 so far. With q for the digits found, zeros after them, and w for the weight of the last,
+// t is 4 * q + w, y is four times what q's square leaves of m * 2^52, in units of w, so that it stays below 2^57 and one word
+// is enough, and r is w / 2, the weight of the next digit. That digit is 1 where y is at least t.
+struct Digits {
+    t: u64,
+    y: u64,
+    r: u64,
+    rounds: u32,
+}
+
+// Before the first round.
+fn no_digits(m: u64) -> Digits
+    requires { ⌜ (2 ^ 52 ≤ m) × (m < 2 ^ 54) ⌝ }
+    ensures { λ d. ⌜ Found (m * 2 ^ 52) (d .t) (d .y) (d .r) (d .rounds) × (d .rounds ≡ 0) ⌝ }
 {
-    let mut t: u64 = 0x20_0000_0000_0000;
-    let mut y = 2 * a;
-    let mut r: u64 = 0x10_0000_0000_0000;
-    while r > 0 {
+    Digits {
+        t: 0x20_0000_0000_0000,
+        y: 2 * m,
+        r: 0x10_0000_0000_0000,
+        rounds: 0,
+    }
+}
+
+// The digits from those that are found, one a round, until none is left or those found are the exact root. t itself is
+// carried, so that a round waits for a subtraction, a choice and a doubling, and nothing waits for the loop's tests.
+fn digits_from(m: u64, found: Digits) -> Digits
+    requires { ⌜ (m < 2 ^ 54) × Found (m * 2 ^ 52) (found .t) (found .y) (found .r) (found .rounds) ⌝ }
+    ensures { λ d. ⌜ Ended (m * 2 ^ 52) (d .t) (d .y) (d .r) (d .rounds) ⌝ }
+{
+    let mut t = found.t;
+    let mut y = found.y;
+    let mut r = found.r;
+    let mut rounds = found.rounds;
+    while r > 0 && y > 0 {
         let s = digit(y, t, 4 * r);
         y = 2 * reduced(y, t);
         t = t - r + s;
         r = r / 2;
+        rounds = rounds + 1;
     }
-    // t is 4 * q + 1: where the root lies beyond q + 1/2; it never lies on it
-    if t < y { t / 4 + 1 } else { t / 4 }
+    Digits { t, y, r, rounds }
 }
 
-// The same, by a guess from the value's pattern b where it is right.
-fn nearest_root(a: u64, b: u64) -> u64
-    requires { ⌜ (a < 2 ^ 54) × (b < 2047 * 2 ^ 52) ⌝ }
-    ensures { λ r. ⌜ r ≡ nearestRoot 53 (a * 2 ^ 52) ⌝ }
+// The digits of two roots, as far as they are found together.
+struct Two {
+    first: Digits,
+    second: Digits,
+}
+
+// One digit of each a round, until none is left or those found of one are the exact root: the two wait for each other's words
+// nowhere, so that the processor works on both at once. The words are t and y for the first, u and z for the second.
+fn digits_of_both(m: u64, n: u64) -> Two
+    requires { ⌜ (2 ^ 52 ≤ m) × (m < 2 ^ 54) × (2 ^ 52 ≤ n) × (n < 2 ^ 54) ⌝ }
+    ensures { λ d. ⌜ FoundBoth (m * 2 ^ 52) (n * 2 ^ 52) d ⌝ }
 {
-    let q = guess(b);
-    if is_nearest(a, q) {
-        return q;
+    let mut t: u64 = 0x20_0000_0000_0000;
+    let mut y = 2 * m;
+    let mut u: u64 = 0x20_0000_0000_0000;
+    let mut z = 2 * n;
+    let mut r: u64 = 0x10_0000_0000_0000;
+    let mut rounds: u32 = 0;
+    while r > 0 && y > 0 && z > 0 {
+        let s = digit(y, t, 4 * r);
+        y = 2 * reduced(y, t);
+        t = t - r + s;
+        let v = digit(z, u, 4 * r);
+        z = 2 * reduced(z, u);
+        u = u - r + v;
+        r = r / 2;
+        rounds = rounds + 1;
     }
-    by_digits(a)
+    let first = Digits { t, y, r, rounds };
+    let second = Digits {
+        t: u,
+        y: z,
+        r,
+        rounds,
+    };
+    Two { first, second }
+}
+
+// The whole number nearest to the root: the digits, or 1 more where the root lies beyond them by more than 1/2. It never lies
+// at 1/2, since t is odd then.
+fn rounded(m: u64, d: Digits) -> u64
+    requires { ⌜ (m < 2 ^ 54) × Ended (m * 2 ^ 52) (d .t) (d .y) (d .r) (d .rounds) ⌝ }
+    ensures { λ q. ⌜ q ≡ nearestRoot 53 (m * 2 ^ 52) ⌝ }
+{
+    let q = (d.t - 2 * d.r) / 4;
+    if d.t < d.y { q + 1 } else { q }
+}
+
+// The root of the value with pattern b: q * 2^e * 2^-589. q's leading digit adds 1 to the exponent's field.
+fn root_value(b: u64, n: Number, d: Digits) -> f64
+    requires { ⌜ Radicand (ofBits binary64 b) (n .m) (n .e) × Ended (n .m * 2 ^ 52) (d .t) (d .y) (d .r) (d .rounds) ⌝ }
+    ensures { λ r. ⌜ r ≡ sqrt (ofBits binary64 b) ⌝ }
+{
+    f64::from_bits(((n.e + 485) << 52) + rounded(n.m, d))
+}
+
+// Of a zero or +infinity x itself, and NaN of anything else.
+fn root_elsewhere(x: f64) -> f64
+    requires { ⌜ positive x ≡ false ⌝ }
+    ensures { λ r. ⌜ r ≡ sqrt x ⌝ }
+{
+    if x < 0.0 { 0.0 / 0.0 } else { x }
+}
+
+// The root of a value, and the rounds that its digits took.
+struct RootAndRounds {
+    root: f64,
+    rounds: u32,
+}
+
+// Both from one loop: the count is that of the rounds by which the root was found.
+fn counted(x: f64) -> RootAndRounds
+    ensures { λ r. ⌜ (r .root ≡ sqrt x) × (r .rounds ≡ sqrtRounds x) ⌝ }
+{
+    let b = pattern(x);
+    if b == 0 {
+        let root = root_elsewhere(x);
+        return RootAndRounds { root, rounds: 0 };
+    }
+    let n = full_width(b);
+    let d = digits_from(n.m, no_digits(n.m));
+    RootAndRounds {
+        root: root_value(b, n, d),
+        rounds: d.rounds,
+    }
 }
 
 // The square root: of a finite x above zero the value nearest to its root, of a zero or +infinity x
@@ -139,26 +216,47 @@ fn nearest_root(a: u64, b: u64) -> u64
 pub fn sqrt(x: f64) -> f64
     ensures { λ r. ⌜ r ≡ sqrt x ⌝ }
 {
-    if x != x {
-        return x;
+    let r = counted(x);
+    r.root
+}
+
+// The rounds that the root's digits take: of a finite x above zero the least count of digits that are the exact root, or 53
+// where there is none; 0 of anything else.
+pub fn sqrt_rounds(x: f64) -> u32
+    ensures { λ r. ⌜ r ≡ sqrtRounds x ⌝ }
+{
+    let r = counted(x);
+    r.rounds
+}
+
+// The square roots of two values.
+pub struct Roots {
+    pub first: f64,
+    pub second: f64,
+}
+
+// Both square roots, in about the time of one: the digits are found together until those of one are exact, and then the other's
+// from where they stand.
+pub fn sqrt_both(x: f64, y: f64) -> Roots
+    ensures { λ r. ⌜ (r .first ≡ sqrt x) × (r .second ≡ sqrt y) ⌝ }
+{
+    let b = pattern(x);
+    let c = pattern(y);
+    if b == 0 || c == 0 {
+        return Roots {
+            first: sqrt(x),
+            second: sqrt(y),
+        };
     }
-    let b = f64::to_bits(x);
-    if b >= 0x8000_0000_0000_0000 {
-        if b == 0x8000_0000_0000_0000 {
-            return x;
-        }
-        return 0.0 / 0.0;
+    let n = full_width(b);
+    let k = full_width(c);
+    let found = digits_of_both(n.m, k.m);
+    let first = found.first;
+    let second = found.second;
+    let d = digits_from(n.m, first);
+    let e = digits_from(k.m, second);
+    Roots {
+        first: root_value(b, n, d),
+        second: root_value(c, k, e),
     }
-    if b == 0 {
-        return x;
-    }
-    if b >= 0x7ff0_0000_0000_0000 {
-        return x;
-    }
-    let p = crate::parts::split(b);
-    let n = widened(p.m, p.h);
-    // an odd exponent gives the number one digit more, so that half of what is left is whole
-    let q = nearest_root(n.a << (n.g % 2), b);
-    // the root is q * 2^(g / 2) * 2^-589; q's leading digit adds 1 to the exponent's field
-    f64::from_bits(((n.g / 2 + 485) << 52) + q)
 }

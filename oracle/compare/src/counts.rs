@@ -2,7 +2,7 @@
 
 use crate::outcome::{show, Outcome};
 
-pub const CALLS: [&str; 13] = [
+pub const CALLS: [&str; 15] = [
     "open",
     "forward",
     "inverse",
@@ -16,6 +16,8 @@ pub const CALLS: [&str; 13] = [
     "box_new",
     "box_take",
     "fair_turns",
+    "sqrt",
+    "sqrt_rounds",
 ];
 pub const OPEN: usize = 0;
 // the four calls on a set follow in the order of the enum
@@ -28,6 +30,8 @@ pub const SLOT_STATE: usize = 9;
 pub const BOX_NEW: usize = 10;
 pub const BOX_TAKE: usize = 11;
 pub const FAIR_TURNS: usize = 12;
+pub const SQRT: usize = 13;
+pub const SQRT_ROUNDS: usize = 14;
 
 #[derive(Clone, Copy, PartialEq)]
 pub enum Where {

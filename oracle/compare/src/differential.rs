@@ -10,6 +10,7 @@ use crate::foreign;
 use crate::foreign_sets;
 use crate::library::Library;
 use crate::outcome::Outcome;
+use crate::roots::Roots;
 use crate::script::Script;
 use crate::set::Set;
 use crate::spoil::Spoil;
@@ -120,6 +121,7 @@ struct Run {
     alone: Alone,
     boxes: Boxes,
     turns: Turns,
+    roots: Roots,
 }
 
 impl Run {
@@ -139,6 +141,7 @@ impl Run {
             },
             boxes: Boxes::new(library(Where::Alone), library(Where::Foreign)),
             turns: Turns::new(seed, library(Where::Alone)),
+            roots: Roots::new(seed, library(Where::Alone)),
         }
     }
 
@@ -148,6 +151,7 @@ impl Run {
             outside::all(&mut self.foreign, &mut self.draw.g);
             refused::lengths(&mut self.foreign);
             self.turns.listed();
+            self.roots.listed();
         }
         open(&mut self.opened, &mut self.draw);
         if turn % A_SET == 0 {
@@ -164,6 +168,7 @@ impl Run {
         self.alone.turn(&mut self.draw, &self.kept.set);
         self.boxes.turn(&mut self.draw, &self.kept.set);
         self.turns.any();
+        self.roots.any();
     }
 }
 
@@ -186,6 +191,7 @@ pub fn run(n: u64, seed: u64, spoil: Option<Spoil>) {
     }
     let mut counts = run.alone.counts;
     counts.add(&run.turns.counts);
+    counts.add(&run.roots.counts);
     for script in [&run.kept, &run.opened, &run.foreign] {
         counts.add(&script.counts);
     }

@@ -4,7 +4,7 @@ use crate::calls::{Call, Forward, Inverse, Place};
 use crate::common::fields::{of_whole, whole};
 use crate::common::refusals::RIGHT;
 use crate::counts::{
-    FAIR_TURNS, FORWARD, FROM_LON_LAT, NEAREST, OPEN, SHOW, SLOT_STATE, TO_LON_LAT,
+    FAIR_TURNS, FORWARD, FROM_LON_LAT, NEAREST, OPEN, SHOW, SLOT_STATE, SQRT, SQRT_ROUNDS, TO_LON_LAT,
 };
 use crate::outcome::{show, Outcome, BEFORE};
 use crate::raw;
@@ -30,6 +30,14 @@ pub fn of_places(places: &[u16], lent: usize) -> Vec<f64> {
     let (lent, behind) = places.split_at(lent);
     let all = behind.iter().chain(lent);
     all.map(|n| whole(usize::from(*n))).collect()
+}
+
+// Every NaN is one: its payload means nothing.
+pub fn one_nan(x: f64) -> f64 {
+    match x.is_nan() {
+        true => f64::NAN,
+        false => x,
+    }
 }
 
 // Frame, face store, sphere store.
@@ -191,5 +199,15 @@ impl Library {
         let (n, m) = (wishes.len(), lent.min(places.len()));
         let status = unsafe { raw::a5_fair_turns(wishes.as_ptr(), n, places.as_mut_ptr(), m) };
         self.ended(FAIR_TURNS, status, of_places(places, m), None)
+    }
+
+    pub fn sqrt(&mut self, x: f64) -> Outcome {
+        let root = unsafe { raw::a5_sqrt(x) };
+        self.ended(SQRT, 0, vec![one_nan(root)], None)
+    }
+
+    pub fn sqrt_rounds(&mut self, x: f64) -> Outcome {
+        let rounds = unsafe { raw::a5_sqrt_rounds(x) };
+        self.ended(SQRT_ROUNDS, 0, vec![whole(rounds as usize)], None)
     }
 }

@@ -38,6 +38,11 @@ mod plain;
 mod raw;
 #[path = "../../calls/src/refused.rs"]
 mod refused;
+#[path = "../../roots/src/inputs.rs"]
+mod root_inputs;
+mod roots;
+#[path = "../../roots/src/rounds.rs"]
+mod rounds;
 mod row;
 mod script;
 mod self_test;
@@ -52,6 +57,9 @@ mod sheets;
 mod spoil;
 mod step_distance;
 #[allow(dead_code)]
+#[path = "../../elementary/src/steps.rs"]
+mod steps;
+#[allow(dead_code)]
 #[path = "../../window/src/window.rs"]
 mod window;
 #[path = "../../window/src/draw.rs"]
@@ -65,7 +73,7 @@ mod turns;
 mod turns_compared;
 
 // where the files of other oracles look for it
-use common::generator;
+use common::{generator, values};
 use spoil::Spoil;
 
 fn number(word: &str) -> u64 {

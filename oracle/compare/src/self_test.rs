@@ -19,7 +19,7 @@ fn ended(words: &[&str]) -> (Option<i32>, String) {
 }
 
 // Open has no answer and is tried on sets that are opened anew, the calls that take no set have no buffers, show is not
-// tried on newly opened sets, and only inverse and unplace give 19. A box has no buffers but something behind it, and a new
+// tried on newly opened sets, only inverse and unplace give 19, and the root refuses nothing. A box has no buffers but something behind it, and a new
 // one is never refused.
 fn can_be(call: &str, what: &str, place: &str) -> bool {
     let buffers = ["frame", "face", "sphere", "behind"].contains(&what);
@@ -29,6 +29,7 @@ fn can_be(call: &str, what: &str, place: &str) -> bool {
         _ if is_19 => false,
         "nearest" | "from_lon_lat" | "to_lon_lat" => place == "no set" && !buffers,
         "fair_turns" => place == "no set" && (!buffers || what == "behind"),
+        "sqrt" | "sqrt_rounds" => place == "no set" && what == "answer",
         "open" => place == "newly opened" && (buffers || what == "status"),
         "box_new" => place == "foreign" && ["answer", "status", "behind"].contains(&what),
         "box_take" => ["foreign", "no set"].contains(&place) && (!buffers || what == "behind"),

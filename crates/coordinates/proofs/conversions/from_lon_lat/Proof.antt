@@ -12,12 +12,15 @@ unfolding fromLonLatGiven
 returns c = simp (← (c .before .before .before .check-lon-lat .ensures), c .before .check .given .1)
 
 from-lon-lat-requires : tie.Need-from-lon-lat-requires
-from-lon-lat-requires c κs = latitude-inside (c .before .before .before .args .lonlat) (sym (c .before .before .check-lon-lat .ensures) ∙ ap givenCheck (c .enum-told .given .1))
+from-lon-lat-requires c κs =
+    let checked = c .before .before in
+    latitude-inside (checked .before .args .lonlat) (sym (checked .check-lon-lat .ensures) ∙ ap givenCheck (c .enum-told .given .1))
 
 returns-2 : tie.Need-returns-2
 unfolding fromLonLatGiven
 returns-2 c =
-    simp (← (c .before .before .before .before .check-lon-lat .ensures), c .before .before .enum-told .given .1)
+    let told = c .before .before in
+    simp (← (told .before .before .check-lon-lat .ensures), told .enum-told .given .1)
     (c .finite-spherical .ensures ∙ ap finiteSpherical (c .before .from-lon-lat .ensures))
 
 pub from-lon-lat-spec : {M : Type 1} → statement M

@@ -12,12 +12,15 @@ unfolding toLonLatGiven
 returns c = simp (← (c .before .before .before .check-spherical .ensures), c .before .check .given .1)
 
 to-lon-lat-requires : tie.Need-to-lon-lat-requires
-to-lon-lat-requires c κs = passed-colatitude (c .before .before .before .args .spherical) (sym (c .before .before .check-spherical .ensures) ∙ ap givenCheck (c .enum-told .given .1))
+to-lon-lat-requires c κs =
+    let checked = c .before .before in
+    passed-colatitude (checked .before .args .spherical) (sym (checked .check-spherical .ensures) ∙ ap givenCheck (c .enum-told .given .1))
 
 returns-2 : tie.Need-returns-2
 unfolding toLonLatGiven
 returns-2 c =
-    simp (← (c .before .before .before .before .check-spherical .ensures), c .before .before .enum-told .given .1)
+    let told = c .before .before in
+    simp (← (told .before .before .check-spherical .ensures), told .enum-told .given .1)
     (c .finite-lon-lat .ensures ∙ ap finiteLonLat (c .before .to-lon-lat .ensures))
 
 pub to-lon-lat-spec : {M : Type 1} → statement M

@@ -4,8 +4,14 @@ use Rattle.coordinates.proofs.coordinate_transforms.from_lon_lat.Statem
 use Rattle.coordinates.proofs.coordinate_transforms.from_lon_lat.Tie as tie
 
 forward-requires : tie.Need-forward-requires
-forward-requires c κs = rw (c .deg-to-rad2 .ensures) (c .before .before .before .before .pre)
+forward-requires c κs = let theta = c .before .before in rw (c .deg-to-rad2 .ensures) (theta .before .before .pre)
+
+returns : tie.Need-returns
+unfolding fromLonLat
+returns c =
+    let authalic = c .before in
+    let geodetic = authalic .before in
+    rw (authalic .forward .ensures, geodetic .deg-to-rad2 .ensures, geodetic .before .before .deg-to-rad .ensures)
 
 pub from-lon-lat-spec : {M : Type 1} → statement M
-unfolding fromLonLat
-from-lon-lat-spec = tie.close (tie.spec (λ c κs. tt) (λ c κs. tt) forward-requires (λ c. rw (c .before .forward .ensures, c .before .before .deg-to-rad2 .ensures, c .before .before .before .before .deg-to-rad .ensures)))
+from-lon-lat-spec = tie.close (tie.spec (λ c κs. tt) (λ c κs. tt) forward-requires returns)

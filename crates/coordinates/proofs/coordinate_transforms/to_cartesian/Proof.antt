@@ -3,6 +3,12 @@ use Rattle.coordinates.specs.CoordinateTransforms.{toCartesian}
 use Rattle.coordinates.proofs.coordinate_transforms.to_cartesian.Statement.{statement}
 use Rattle.coordinates.proofs.coordinate_transforms.to_cartesian.Tie as tie
 
-pub to-cartesian-spec : {M : Type 1} → statement M
+returns : tie.Need-returns
 unfolding toCartesian
-to-cartesian-spec = tie.close (tie.spec (λ c κs. c .pre .0) (λ c κs. c .before .pre .1) (λ c. rw (c .before .before .before .before .sin-cos-inside2 .ensures, c .before .before .before .before .before .sin-cos-inside .ensures)))
+returns c =
+    let read = c .before .before in
+    let phi = read .before .before in
+    rw (phi .sin-cos-inside2 .ensures, phi .before .sin-cos-inside .ensures)
+
+pub to-cartesian-spec : {M : Type 1} → statement M
+to-cartesian-spec = tie.close (tie.spec (λ c κs. c .pre .0) (λ c κs. c .before .pre .1) returns)

@@ -6,8 +6,17 @@ use Rattle.coordinates.proofs.coordinate_transforms.to_lon_lat.Tie as t
 
 inverse-requires : tie.Need-inverse-requires
 unfolding FRAC-PI-2
-inverse-requires c κs = c .before .before .before .before .before .pre
+inverse-requires c κs =
+    let degrees = c .before .before .before in
+    degrees .before .before .pre
+
+returns : tie.Need-returns
+unfolding toLonLat
+returns c =
+    let geodetic = c .before in
+    let longitude = geodetic .before .before in
+    let degrees = longitude .before .before in
+    rw (c .rad-to-deg2 .ensures, geodetic .inverse .ensures, longitude .normalize-longitude .ensures, degrees .rad-to-deg .ensures)
 
 pub to-lon-lat-spec : {M : Type 1} → statement M
-unfolding toLonLat
-to-lon-lat-spec = tie.close (tie.spec (λ c κs. tt) (λ c κs. tt) inverse-requires (λ c κs. tt) (λ c. rw (c .rad-to-deg2 .ensures, c .before .inverse .ensures, c .before .before .before .normalize-longitude .ensures, c .before .before .before .before .before .rad-to-deg .ensures)))
+to-lon-lat-spec = tie.close (tie.spec (λ c κs. tt) (λ c κs. tt) inverse-requires (λ c κs. tt) returns)

@@ -3,6 +3,9 @@ use Rattle.coordinates.specs.CoordinateTransforms.{toPolar}
 use Rattle.coordinates.proofs.coordinate_transforms.to_polar.Statement.{statement}
 use Rattle.coordinates.proofs.coordinate_transforms.to_polar.Tie as tie
 
-pub to-polar-spec : {M : Type 1} → statement M
+returns : tie.Need-returns
 unfolding toPolar
-to-polar-spec = tie.close (tie.spec (λ c κs. tt) (λ c κs. tt) (λ c. rw (c .atan2 .ensures, c .before .sqrt .ensures)))
+returns c = let found = c .atan2-and-sqrt .ensures in rw (found .0, found .1)
+
+pub to-polar-spec : {M : Type 1} → statement M
+to-polar-spec = tie.close (tie.spec (λ c κs. tt) returns)

@@ -1,5 +1,5 @@
 -- `coordinate_transforms::to_spherical` meets its contract. Assumes nothing.
-use mathlib.Core.Path.{ap, _∙_}
+use mathlib.Core.Path.{ap, ap₂, _∙_}
 use lib.Ieee.{Float}
 use Rattle.arithmetic.specs.Arith.{ieee}
 use Rattle.elementary.specs.Arctangent.{atan2}
@@ -14,9 +14,10 @@ spherical theta phi = record { theta = radians theta; phi = radians phi }
 returns : tie.Need-returns
 unfolding toSpherical
 returns c =
-    let p = c .before .before .before .args .cart .0 in
-    ap (λ (t : Float). spherical t (c .atan22 .result)) (c .before .before .atan2 .ensures)
-    ∙ ap (spherical (atan2 ieee (p .y) (p .x))) (c .atan22 .ensures ∙ ap (λ (r : Float). atan2 ieee r (p .z)) (c .before .sqrt .ensures))
+    let angles = c .atan2-both .ensures in
+    let found = c .before in
+    let p = found .before .args .cart .0 in
+    ap₂ spherical (angles .0) (angles .1 ∙ ap (λ (r : Float). atan2 ieee r (p .z)) (found .sqrt .ensures))
 
 pub to-spherical-spec : {M : Type 1} → statement M
-to-spherical-spec = tie.close (tie.spec (λ c κs. tt) (λ c κs. tt) (λ c κs. tt) returns)
+to-spherical-spec = tie.close (tie.spec (λ c κs. tt) (λ c κs. tt) returns)

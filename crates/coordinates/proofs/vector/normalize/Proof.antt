@@ -13,7 +13,8 @@ stays : (v : Cartesian) → eq (length ieee v) 0·0 ≡ true → v ≡ normalize
 unfolding normalize
 stays v e = rw (e, normalize)
 
-divided : (v : Cartesian) (l : Float) → l ≡ length ieee v → eq l 0·0 ≡ false → cartesian (div binary64 (x v) l) (div binary64 (y v) l) (div binary64 (z v) l) ≡ normalize ieee v
+divided : (v : Cartesian) (l : Float) → l ≡ length ieee v → eq l 0·0 ≡ false
+    → cartesian (div binary64 (x v) l) (div binary64 (y v) l) (div binary64 (z v) l) ≡ normalize ieee v
 unfolding normalize
 divided v l h e =
     ap (λ (n : Float). cartesian (div binary64 (x v) n) (div binary64 (y v) n) (div binary64 (z v) n)) h

@@ -1,8 +1,8 @@
 -- `atan2_base` meets its contract. Assumes nothing.
-use mathlib.Core.Path.{_≡_, sym, ap, _∙_}
+use mathlib.Core.Path.{_≡_, sym}
 use mathlib.Core.Bool.{false, _&&_}
 use mathlib.Core.Logic.{⊎-elim}
-use lib.Ieee.{binary64, sub, eq, ofBits}
+use lib.Ieee.{eq, ofBits}
 use Rattle.arithmetic.specs.Numbers.{0·0}
 use Rattle.elementary.specs.Constants.{FRAC-PI-2}
 use Rattle.elementary.proofs.Angles.{and-first, and-then, base-zero, base-low, base-high}
@@ -20,14 +20,16 @@ not-both c = ⊎-elim (λ w. and-then _ _ _ (w .0 .taken) (w .1 .left)) (λ w. a
 returns-2 : tie.Need-returns-2
 unfolding ofBits
 returns-2 c =
-    c .core .ensures
-    ∙ sym (base-low _ _ (not-both (c .before .before)) (c .before .if3 .taken))
+    let start = c .before .before in
+    let a = start .args in
+    sym (base-low (a .a) (a .b) (a .angle) (start .pre) (not-both (c .before)) (c .if3 .taken))
 
 returns-3 : tie.Need-returns-3
 unfolding ofBits FRAC-PI-2
 returns-3 c =
-    ap (sub binary64 FRAC-PI-2) (c .core2 .ensures)
-    ∙ sym (base-high _ _ (not-both (c .before .before)) (c .before .if3 .left))
+    let start = c .before .before in
+    let a = start .args in
+    sym (base-high (a .a) (a .b) (a .angle) (start .pre) (not-both (c .before)) (c .if3 .left))
 
 pub atan2-base-spec : {M : Type 1} → statement M
-atan2-base-spec = tie.close (tie.spec returns (λ c κs. tt) (λ c κs. tt) returns-2 returns-3)
+atan2-base-spec = tie.close (tie.spec returns returns-2 returns-3)

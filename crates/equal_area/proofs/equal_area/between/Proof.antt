@@ -4,6 +4,12 @@ use Rattle.equal_area.specs.EqualArea.{between}
 use Rattle.equal_area.proofs.equal_area.between.Statement.{statement}
 use Rattle.equal_area.proofs.equal_area.between.Tie as tie
 
-pub between-spec : {M : Type 1} → statement M
+returns : tie.Need-returns
 unfolding between ofBits
-between-spec = tie.close (tie.spec (λ c κs. tt) (λ c κs. tt) (λ c κs. tt) (λ c κs. tt) (λ c. rw (c .scale-and-add .ensures, c .before .scale .ensures, c .before .before .sqrt .ensures, c .before .before .before .dot .ensures)))
+returns c =
+    let scaled = c .before in
+    let rooted = scaled .before in
+    rw (c .scale-and-add .ensures, scaled .scale .ensures, rooted .sqrt .ensures, rooted .before .dot .ensures)
+
+pub between-spec : {M : Type 1} → statement M
+between-spec = tie.close (tie.spec (λ c κs. tt) (λ c κs. tt) (λ c κs. tt) (λ c κs. tt) returns)

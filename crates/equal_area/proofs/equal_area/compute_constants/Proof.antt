@@ -4,6 +4,22 @@ use Rattle.equal_area.specs.EqualArea.{computeConstants}
 use Rattle.equal_area.proofs.equal_area.compute_constants.Statement.{statement}
 use Rattle.equal_area.proofs.equal_area.compute_constants.Tie as tie
 
-pub compute-constants-spec : {M : Type 1} → statement M
+returns : tie.Need-returns
 unfolding computeConstants ofBits
-compute-constants-spec = tie.close (tie.spec (λ c κs. tt) (λ c κs. tt) (λ c κs. tt) (λ c κs. tt) (λ c κs. tt) (λ c κs. tt) (λ c. rw (c .spherical-triangle-area .ensures, c .before .dot4 .ensures, c .before .before .dot3 .ensures, c .before .before .before .dot2 .ensures, c .before .before .before .before .dot .ensures, c .before .before .before .before .before .cross .ensures)))
+returns c =
+    let v = c .before in
+    let bc = v .before in
+    let ac = bc .before in
+    let ab = ac .before in
+    rw (
+      c .spherical-triangle-area .ensures,
+      v .dot4 .ensures,
+      bc .dot3 .ensures,
+      ac .dot2 .ensures,
+      ab .dot .ensures,
+      ab .before .cross .ensures,
+    )
+
+pub compute-constants-spec : {M : Type 1} → statement M
+compute-constants-spec =
+    tie.close (tie.spec (λ c κs. tt) (λ c κs. tt) (λ c κs. tt) (λ c κs. tt) (λ c κs. tt) (λ c κs. tt) returns)

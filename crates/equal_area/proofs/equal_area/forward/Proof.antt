@@ -4,6 +4,47 @@ use Rattle.equal_area.specs.EqualArea.{forward}
 use Rattle.equal_area.proofs.equal_area.forward.Statement.{statement}
 use Rattle.equal_area.proofs.equal_area.forward.Tie as tie
 
-pub forward-spec : {M : Type 1} → statement M
+returns : tie.Need-returns
 unfolding forward ofBits
-forward-spec = tie.close (tie.spec (λ c κs. tt) (λ c κs. tt) (λ c κs. tt) (λ c κs. tt) (λ c κs. tt) (λ c κs. tt) (λ c κs. tt) (λ c κs. tt) (λ c κs. tt) (λ c κs. tt) (λ c κs. tt) (λ c κs. tt) (λ c. rw (c .barycentric-to-face .ensures, c .before .sqrt .ensures, c .before .before .dot3 .ensures, c .before .before .before .dot2 .ensures, c .before .before .before .before .max-zero .ensures, c .before .before .before .before .before .spherical-triangle-area .ensures, c .before .before .before .before .before .before .scale2 .ensures, c .before .before .before .before .before .before .before .one-over .ensures, c .before .before .before .before .before .before .before .before .length .ensures, c .before .before .before .before .before .before .before .before .before .scale-and-add .ensures, c .before .before .before .before .before .before .before .before .before .before .scale .ensures, c .before .before .before .before .before .before .before .before .before .before .before .dot .ensures)))
+returns c =
+    let size = c .before .before in
+    let found = size .before in
+    let area-root = found .spherical-triangle-area-and-sqrt .ensures in
+    let by-v = found .before in
+    let by-p = by-v .before in
+    let p = by-p .before in
+    let inverted = p .before in
+    let long = inverted .before in
+    let summed = long .before in
+    let scaled = summed .before in
+    rw (
+      c .barycentric-to-face .ensures,
+      size .max-zero .ensures,
+      area-root .0,
+      area-root .1,
+      by-v .dot3 .ensures,
+      by-p .dot2 .ensures,
+      p .scale2 .ensures,
+      inverted .one-over .ensures,
+      long .length .ensures,
+      summed .scale-and-add .ensures,
+      scaled .scale .ensures,
+      scaled .before .dot .ensures,
+    )
+
+pub forward-spec : {M : Type 1} → statement M
+forward-spec =
+    tie.close
+    (tie.spec
+    (λ c κs. tt)
+    (λ c κs. tt)
+    (λ c κs. tt)
+    (λ c κs. tt)
+    (λ c κs. tt)
+    (λ c κs. tt)
+    (λ c κs. tt)
+    (λ c κs. tt)
+    (λ c κs. tt)
+    (λ c κs. tt)
+    (λ c κs. tt)
+    returns)

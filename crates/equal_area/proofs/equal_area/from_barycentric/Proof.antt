@@ -10,15 +10,23 @@ returns c = rw (c .before .if1 .taken, fromBarycentric)
 
 returns-2 : tie.Need-returns-2
 unfolding fromBarycentric ofBits
-returns-2 c = rw (c .before .before .before .if1 .left, fromBarycentric) (rw (c .before .if2 .taken))
+returns-2 c =
+    let second = c .before in
+    rw (second .before .before .if1 .left, fromBarycentric) (rw (second .if2 .taken))
 
 returns-3 : tie.Need-returns-3
 unfolding fromBarycentric ofBits
-returns-3 c = rw (c .before .before .before .before .before .if1 .left, fromBarycentric) (rw (c .before .before .before .if2 .left, c .before .if3 .taken))
+returns-3 c =
+    let third = c .before in
+    let second = third .before .before in
+    rw (second .before .before .if1 .left, fromBarycentric) (rw (second .if2 .left, third .if3 .taken))
 
 returns-4 : tie.Need-returns-4
 unfolding fromBarycentric ofBits
-returns-4 c = rw (c .before .before .before .before .before .if1 .left, fromBarycentric) (rw (c .before .before .before .if2 .left, c .before .if3 .left) (c .inside .ensures))
+returns-4 c =
+    let third = c .before in
+    let second = third .before .before in
+    rw (second .before .before .if1 .left, fromBarycentric) (rw (second .if2 .left, third .if3 .left) (c .inside .ensures))
 
 pub from-barycentric-spec : {M : Type 1} → statement M
 from-barycentric-spec = tie.close (tie.spec returns returns-2 returns-3 (λ c κs. tt) returns-4)

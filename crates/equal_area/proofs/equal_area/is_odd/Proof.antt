@@ -3,6 +3,11 @@ use Rattle.equal_area.specs.EqualArea.{isOdd}
 use Rattle.equal_area.proofs.equal_area.is_odd.Statement.{statement}
 use Rattle.equal_area.proofs.equal_area.is_odd.Tie as tie
 
-pub is-odd-spec : {M : Type 1} → statement M
+returns : tie.Need-returns
 unfolding isOdd
-is-odd-spec = tie.close (tie.spec (λ c κs. tt) (λ c κs. tt) (λ c κs. tt) (λ c. rw (c .abs2 .ensures, c .before .before .abs .ensures, c .before .before .before .before .dot .ensures)))
+returns c =
+    let first = c .before .before in
+    rw (c .abs2 .ensures, first .abs .ensures, first .before .before .dot .ensures)
+
+pub is-odd-spec : {M : Type 1} → statement M
+is-odd-spec = tie.close (tie.spec (λ c κs. tt) (λ c κs. tt) (λ c κs. tt) returns)

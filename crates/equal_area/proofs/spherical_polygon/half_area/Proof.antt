@@ -8,9 +8,12 @@ use Rattle.equal_area.proofs.spherical_polygon.half_area.Statement.{sta
 use Rattle.equal_area.proofs.spherical_polygon.half_area.Tie as tie
 
 -- 0.18759247408508, 3.5794776396065218 and 0.05235987755982991
-known : ofBits binary64 0x3faa_cee9_f37b_ebd9 ≡ atan2 ieee (ofBits binary64 0x3fc8_0307_ba95_e81e) (ofBits binary64 0x400c_a2c5_2c36_fc7d)
+abbrev Known : Arith → Type 0
+Known A = ofBits binary64 0x3faa_cee9_f37b_ebd9 ≡ atan2 A (ofBits binary64 0x3fc8_0307_ba95_e81e) (ofBits binary64 0x400c_a2c5_2c36_fc7d)
+
+known : Known ieee
 unfolding atan2 ofBits quick
-known = in-ieee (λ (A : Arith). ofBits binary64 0x3faa_cee9_f37b_ebd9 ≡ atan2 A (ofBits binary64 0x3fc8_0307_ba95_e81e) (ofBits binary64 0x400c_a2c5_2c36_fc7d)) refl
+known = in-ieee Known refl
 
 returns : tie.Need-returns
 unfolding ofBits

@@ -11,7 +11,8 @@ returns c =
     let d = c .before .before .wrapping-sub-u64 in
     let s = c .before .wrapping-sub-u642 in
     let r = c .wrapping-add-u64 in
-    added-back (a .args .y) (a .args .t) (d .result) (a .pre .0) (a .pre .1) (omega arith) (d .ensures) (s .result) (r .result) (omega arith) (s .ensures) (r .ensures)
+    added-back (a .args .y) (a .args .t) (d .result) (a .pre .0) (a .pre .1) (omega arith) (d .ensures)
+    (s .result) (r .result) (omega arith) (s .ensures) (r .ensures)
 
 pub reduced-spec : {M : Type 1} → statement M
 reduced-spec =
