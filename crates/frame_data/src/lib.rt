@@ -1,0 +1,1 @@
+// No code: this crate holds facts about closed numbers (proofs/), each computed.

@@ -1,0 +1,81 @@
+-- What a reader may try on Paper 9's claims. Assumes nothing.
+use mathlib.Core.Path.{_≡_, refl, sym, ap, subst, _∙_}
+use mathlib.Core.Bool.{true, false, true≢false}
+use mathlib.Core.List.{List, [], _∷_, _++_}
+use Prim.Native.Nat.{ℕ}
+use lib.ListN.{replicate, length-replicate}
+use lib.Ieee.{nan}
+use Rattle.answer.specs.Given.{passed}
+use Rattle.answer.proofs.Given.{then-answered}
+use Rattle.arithmetic.specs.Arith.{ieee}
+use Rattle.origin.specs.Origins.{ORIGINS}
+use Rattle.set.specs.Sizes.{FRAME, FACE-STORE, SPHERE-STORE}
+use Rattle.set.specs.Set.{Set, setOf, checkSet}
+use Rattle.set.specs.Open.{openGiven, openOn, newSet}
+use Rattle.set.proofs.Lengths.{set-passed}
+use Rattle.histories.specs.Lists.{Call, effect, step}
+use Rattle.histories.specs.EveryList.{opened, left}
+use Rattle.opening.specs.Opening.{RightLengths, RefusedWith, Without8}
+use Rattle.opening.specs.Refusals.{among, INVERSE-REFUSALS, NoneRefused}
+use Rattle.opening.proofs.Lists.{run-then}
+use Rattle.opening.proofs.Theorem.{open-answers, lengths-after, call-left, never-8}
+
+-- ---- where open answers
+
+-- on no others
+pub only-right-lengths : (b : Set) → openOn ieee ORIGINS b .answer ≡ passed → RightLengths b
+unfolding openGiven
+only-right-lengths b e =
+    let fits = set-passed b (then-answered (checkSet b) _ tt e .0) in
+    record { frame = fits .frame; faces = fits .faces; spheres = fits .spheres }
+
+-- Demand 3's premise can be met: there are buffers on which open answers. These hold a NaN in every place.
+pub a-set-opens : (b : Set) × (openOn ieee ORIGINS b .answer ≡ passed)
+a-set-opens =
+    let b = setOf (replicate FRAME nan) (replicate FACE-STORE nan) (replicate SPHERE-STORE nan) in
+    let frame = length-replicate FRAME nan in
+    let faces = length-replicate FACE-STORE nan in
+    let spheres = length-replicate SPHERE-STORE nan in
+    (b, open-answers b (record { frame = frame; faces = faces; spheres = spheres }))
+
+-- whatever the buffers held, the newly opened set is one and the same
+pub one-opened-set : (b : Set) → RightLengths b → opened b ≡ newSet ieee ORIGINS
+one-opened-set b l = rw (open-answers b l)
+
+-- the case of the empty list
+pub newly-opened : (b : Set) → RightLengths b → Without8 (opened b)
+newly-opened b l = never-8 b l []
+
+-- ---- after every list open answers again
+
+pub open-answers-after : (b : Set) → RightLengths b → (cs : List Call)
+    → openOn ieee ORIGINS (left b cs) .answer ≡ passed
+open-answers-after b l cs = open-answers (left b cs) (lengths-after b l cs)
+
+-- ---- along a list
+
+-- no call of a list, open included, gives a number that is not left
+module _ (b : Set) (l : RightLengths b) (n : ℕ) (gone : among n INVERSE-REFUSALS ≡ false) where
+  none-from : (before after : List Call) (s : Set) → left b before ≡ s → NoneRefused n s after
+  none-from before [] s e = tt
+  none-from before (c ∷ cs) s e =
+      let at : Set → Type 0 = λ t. RefusedWith n (effect t c) in
+      let left-over : at s → among n INVERSE-REFUSALS ≡ true = λ r. call-left b l before c n (subst at (sym e) r) in
+      let there = run-then (opened b) before c ∙ ap (λ (t : Set). step t c) e in
+      (λ r. true≢false (sym (left-over r) ∙ gone), none-from (before ++ c ∷ []) cs (step s c) there)
+
+  pub none-refused : (cs : List Call) → NoneRefused n (opened b) cs
+  none-refused cs = none-from [] cs (opened b) refl
+
+-- these among them
+pub no-call-gives : (b : Set) → RightLengths b → (cs : List Call)
+    → NoneRefused 1 (opened b) cs × NoneRefused 2 (opened b) cs × NoneRefused 3 (opened b) cs
+    × NoneRefused 7 (opened b) cs × NoneRefused 8 (opened b) cs
+unfolding among
+no-call-gives b l cs = (
+  none-refused b l 1 refl cs,
+  none-refused b l 2 refl cs,
+  none-refused b l 3 refl cs,
+  none-refused b l 7 refl cs,
+  none-refused b l 8 refl cs,
+)

@@ -1,0 +1,2 @@
+-- Paper 9 for the strike program.
+pub mod Strike

@@ -1,0 +1,48 @@
+-- The strike program: what its records leave is what a list of place and unplace leaves. Assumes nothing.
+use mathlib.Core.Path.{_≡_, refl, sym, ap, subst, _∙_}
+use mathlib.Core.List.{List, [], _∷_, _++_}
+use Prim.Native.Nat.{ℕ, zero, suc}
+use lib.ListN.{take, drop}
+use Rattle.answer.specs.Given.{Given, answered, refused}
+use Rattle.arithmetic.specs.Arith.{ieee}
+use Rattle.origin.specs.Origins.{ORIGINS}
+use Rattle.set.specs.Set.{Set}
+use Rattle.histories.specs.Lists.{Call, places, unplaces, step}
+use Rattle.histories.specs.EveryList.{opened, left}
+use Rattle.strike_records.specs.Record.{Request, place, unplace, requestIn}
+use Rattle.strike_records.specs.Session.{lineOf, replyTo, reply, session, program}
+use Rattle.opening.specs.Opening.{Without8}
+use Rattle.strike_opening.specs.Strike.{setAfter, Never7Or8}
+use Rattle.opening.proofs.Lists.{run-then}
+use Rattle.opening.proofs.Theorem.{open-answers, never-8}
+
+module _ (b : Set) where
+  -- some list leaves the set s
+  abbrev LeftBy : Set → Type 0
+  LeftBy s = (cs : List Call) × (left b cs ≡ s)
+
+  -- one call more
+  next : (s : Set) (c : Call) → LeftBy s → LeftBy (step s c)
+  next s c h = (h .0 ++ c ∷ [], run-then (opened b) (h .0) c ∙ ap (λ (t : Set). step t c) (h .1))
+
+  one : (s : Set) (r : Given Request) → LeftBy s → LeftBy (replyTo ieee ORIGINS s r .set)
+  one s (refused n) h = h
+  one s (answered (place p)) h = next s (places p) h
+  one s (answered (unplace f o)) h = next s (unplaces f o) h
+
+  records-left : (n : ℕ) (s : Set) (bytes : List ℕ) → LeftBy s → LeftBy (setAfter n s bytes)
+  unfolding setAfter reply
+  records-left zero s bytes h = h
+  records-left (suc n) s bytes h =
+      let r = take 10 bytes in
+      records-left n (reply ieee ORIGINS s r .set) (drop 10 bytes) (one s (requestIn ieee r) h)
+
+pub never-7-or-8 : Never7Or8
+unfolding program
+never-7-or-8 b l bytes =
+    record {
+      begins = ap (lineOf (λ u. session ieee ORIGINS (opened b) bytes)) (open-answers b l);
+      records = λ n rest.
+          let h = records-left b n (opened b) rest ([], refl) in
+          subst Without8 (h .1) (never-8 b l (h .0));
+    }
