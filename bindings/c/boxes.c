@@ -1,20 +1,11 @@
 /* The caption box in C, tried on the linked library: a new box, points, zeros, refusals, and boxes with any contents.
  * Prints what failed and then one line; the exit status is 0 where nothing failed. */
 #include "../a5.h"
+#include "check.h"
 #include <math.h>
-#include <stdio.h>
 #include <string.h>
 
-static int checks, failures;
-
-static void check(int ok, const char *what, int line) {
-    checks++;
-    if (ok)
-        return;
-    failures++;
-    printf("bindings/c/boxes.c:%d: %s\n", line, what);
-}
-#define CHECK(ok) check(ok, #ok, __LINE__)
+#define CHECK_BOX(ok) CHECK(ok, "a box")
 
 /* Bit for bit, as far as C shows a struct: its padding is nobody's. */
 static int same(a5_box b, a5_box c) {
@@ -33,20 +24,20 @@ static a5_box box_of(double least_x, double greatest_x, double least_y, double g
 }
 
 static void takes(a5_box before, double x, double y, a5_box after) {
-    CHECK(a5_box_take(&before, x, y) == A5_ANSWERED);
-    CHECK(same(before, after));
+    CHECK_BOX(a5_box_take(&before, x, y) == A5_ANSWERED);
+    CHECK_BOX(same(before, after));
 }
 
 static void refuses(a5_box before, double x, double y, uint8_t number) {
     a5_box b = before;
-    CHECK(a5_box_take(&b, x, y) == number);
-    CHECK(same(b, before));
+    CHECK_BOX(a5_box_take(&b, x, y) == number);
+    CHECK_BOX(same(b, before));
 }
 
 static void new_boxes(void) {
     a5_box b = box_of(NAN, 7.5, -INFINITY, -0.0, false);
     a5_box_new(&b);
-    CHECK(same(b, box_of(0.0, 0.0, 0.0, 0.0, true)));
+    CHECK_BOX(same(b, box_of(0.0, 0.0, 0.0, 0.0, true)));
 }
 
 static void points(void) {
@@ -91,6 +82,5 @@ int main(void) {
     points();
     zeros_and_nan();
     refusals();
-    printf("bindings/c/boxes: %d checks, %d failed\n", checks, failures);
-    return failures != 0;
+    return finished("bindings/c/boxes");
 }

@@ -1,19 +1,9 @@
 /* The as-run sheet in C: pages against text that printf makes, the largest counts, the refusal, which leaves every byte, and
  * the bytes behind a page. Prints what failed and then one line; the exit status is 0 where nothing failed. */
 #include "../a5.h"
+#include "check.h"
 #include <stdio.h>
 #include <string.h>
-
-static int checks, failures;
-
-static void check(int ok, const char *what, const char *name, int line) {
-    checks++;
-    if (ok)
-        return;
-    failures++;
-    printf("bindings/c/sheet_test.c:%d: %s: %s\n", line, name, what);
-}
-#define CHECK(ok, name) check(ok, #ok, name, __LINE__)
 
 /* A page with bytes behind it that no call may touch. */
 static uint8_t lent[A5_PAGE + 64], before[A5_PAGE + 64];
@@ -80,6 +70,5 @@ int main(void) {
     const size_t others[] = {0, 1, 80, 81, A5_PAGE - 1, A5_PAGE + 1, sizeof lent};
     for (size_t i = 0; i < sizeof others / sizeof *others; i++)
         refuses(others[i], "another length");
-    printf("bindings/c/sheet_test: %d checks, %d failed\n", checks, failures);
-    return failures != 0;
+    return finished("bindings/c/sheet_test");
 }

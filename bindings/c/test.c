@@ -1,20 +1,10 @@
 /* The C interface, tried on the linked library: open, refusals, wrong lengths, the session of document 01, a session of
  * place and unplace, show, and fair turns. Prints what failed and then one line; the exit status is 0 where nothing failed. */
 #include "../a5.h"
+#include "check.h"
 #include <math.h>
 #include <stdio.h>
 #include <string.h>
-
-static int checks, failures;
-
-static void check(int ok, const char *what, const char *name, int line) {
-    checks++;
-    if (ok)
-        return;
-    failures++;
-    printf("bindings/c/test.c:%d: %s: %s\n", line, name, what);
-}
-#define CHECK(ok, name) check(ok, #ok, name, __LINE__)
 
 /* ---- a set, and its calls in one form */
 
@@ -440,6 +430,5 @@ int main(void) {
     square_roots();
     session_of_document_01();
     session_of_place_and_unplace();
-    printf("bindings/c/test: %d checks, %d failed\n", checks, failures);
-    return failures != 0;
+    return finished("bindings/c/test");
 }

@@ -2,8 +2,8 @@
  * refusals in their order, which leave every byte, and any contents. Prints what failed and then one line; the exit
  * status is 0 where nothing failed. */
 #include "../a5.h"
+#include "check.h"
 #include <stdalign.h>
-#include <stdio.h>
 #include <string.h>
 
 _Static_assert(sizeof(a5_window) == 20540, "a5.h says so");
@@ -11,17 +11,6 @@ _Static_assert(alignof(a5_window) == 4, "a5.h says so");
 _Static_assert(offsetof(a5_window, origins) == 16384, "no padding");
 _Static_assert(offsetof(a5_window, counts) == 20480, "no padding");
 _Static_assert(offsetof(a5_window, state) == 20528, "no padding");
-
-static int checks, failures;
-
-static void check(int ok, const char *what, const char *name, int line) {
-    checks++;
-    if (ok)
-        return;
-    failures++;
-    printf("bindings/c/window_test.c:%d: %s: %s\n", line, name, what);
-}
-#define CHECK(ok, name) check(ok, #ok, name, __LINE__)
 
 /* A window with bytes behind it that no call may touch. */
 static struct {
@@ -167,6 +156,5 @@ int main(void) {
     fill_and_refuse();
     a_long_list();
     any_contents();
-    printf("bindings/c/window_test: %d checks, %d failed\n", checks, failures);
-    return failures != 0;
+    return finished("bindings/c/window_test");
 }
