@@ -12,7 +12,7 @@ use Rattle.coordinates.specs.declared.coords.Face.{Face}
 use Rattle.coordinates.specs.declared.polar.Polar.{Polar}
 use Rattle.coordinates.specs.declared.spherical.Spherical.{Spherical}
 use Rattle.origin.specs.Origins.{originAt}
-use Rattle.equal_area.specs.EqualArea.{inverse}
+use Rattle.equal_area.specs.EqualArea.{forward, inverse}
 use Rattle.set.specs.Set.{Set}
 use Rattle.set.specs.Checks.{checkCall}
 use Rattle.stores.specs.declared.used.Used.{Used}
@@ -20,7 +20,7 @@ use Rattle.triangles.specs.Taken.{faceFor, usedFor, takenFor}
 use Rattle.triangles.specs.declared.taken.Taken.{Taken}
 use Rattle.triangles.proofs.Within.{answered-same, taken-is}
 use Rattle.dodecahedron.specs.Work.{Work}
-use Rattle.dodecahedron.specs.Projection.{frameConstants, polarAbout, facePoint, forwardCore, inverseCore}
+use Rattle.dodecahedron.specs.Projection.{frameConstants, polarAbout, forwardCore, inverseCore}
 
 module _ (A : Arith) (table : List Float) (s : Set) (o : ℕ) where
   abbrev used : Polar → Given Used
@@ -49,7 +49,8 @@ module _ (A : Arith) (table : List Float) (s : Set) (o : ℕ) where
 
     abbrev placed : Taken → Work Face
     placed t =
-        record { answer = facePoint A (frameConstants A (s .frame)) (toCartesian A p) (t .used .triangle) (t .«face_triangle»); used = t .used }
+        let constants = frameConstants A (s .frame) in
+        record { answer = forward A constants (toCartesian A p) (t .used .triangle) (t .used .bxc) (t .«face_triangle»); used = t .used }
 
     forward-through : Passed → forwardCore A table s p o ≡ bind (taken about) λ t. answered (placed t)
     unfolding forwardCore

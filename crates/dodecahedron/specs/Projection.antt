@@ -8,11 +8,9 @@ use Rattle.answer.specs.Given.{Given, answered, bind}
 use Rattle.arithmetic.specs.Arith.{Arith}
 use Rattle.coordinates.specs.CoordinateTransforms.{radians, toPolar, toSpherical, toCartesian}
 use Rattle.coordinates.specs.Gnomonic.{gnomonicForward}
-use Rattle.coordinates.specs.Vector.{cartesian, cross}
+use Rattle.coordinates.specs.Vector.{cartesian}
 use Rattle.coordinates.specs.declared.coords.Cartesian.{Cartesian}
 use Rattle.coordinates.specs.declared.coords.Face.{Face}
-use Rattle.coordinates.specs.declared.coords.FaceTriangle.{FaceTriangle}
-use Rattle.coordinates.specs.declared.coords.SphericalTriangle.{SphericalTriangle}
 use Rattle.coordinates.specs.declared.polar.Polar.{Polar}
 use Rattle.coordinates.specs.declared.spherical.Spherical.{Spherical}
 use Rattle.origin.specs.Origins.{originAt}
@@ -46,19 +44,15 @@ module _ (A : Arith) where
       -- turned about the face's axis, so that the origin's own angle is off
       record { rho = polar .rho; gamma = radians (polar .gamma .0 ⊖ o .angle .0) }
 
-  -- the face point of a position between two triangles, with b × c of the spherical one
-  abbrev pub facePoint : TriangleConstants → Cartesian → SphericalTriangle → FaceTriangle → Face
-  facePoint k v t f = forward A k v t (cross A (t .b) (t .c)) f
-
 module _ (A : Arith) (table : List Float) (s : Set) where
-  -- DodecahedronProjection::forward; 8
+  -- DodecahedronProjection::forward; 8. Paper 6: "Forward reads b × c there, as it stands, instead of forming it".
   unfoldable pub forwardCore : Spherical → ℕ → Given (Work Face)
   forwardCore p o =
       let v = toCartesian A p in
       bind (usedFor A table s o (polarAbout A (originAt table o) v)) λ u.
-      answered (record { answer = facePoint A (frameConstants A (s .frame)) v (u .triangle) (faceFor A s u); used = u })
+      answered (record { answer = forward A (frameConstants A (s .frame)) v (u .triangle) (u .bxc) (faceFor A s u); used = u })
 
-  -- DodecahedronProjection::inverse; 8, and Paper 7's 19, "tried after 8 and before 9"
+  -- DodecahedronProjection::inverse; 8, and Paper 7's 19, "tried after 8 and before 9". It has no use for b × c.
   unfoldable pub inverseCore : Face → ℕ → Given (Work Spherical)
   inverseCore f o =
       bind (usedFor A table s o (toPolar A f)) λ u.

@@ -93,16 +93,12 @@ pub(crate) fn forward_core(
         TakenAnswer::Refused(n) => FaceWork::Refused(n),
         TakenAnswer::Answered(taken) => {
             let used = taken.used;
-            let t = used.triangle;
-            let b = t.b;
-            let c = t.c;
-            let bxc = coordinates::vector::cross(b, c);
             let constants = frame_constants(frame);
             let answer = equal_area::equal_area::forward(
                 constants,
                 unprojected,
-                t,
-                bxc,
+                used.triangle,
+                used.bxc,
                 taken.face_triangle,
             );
             FaceWork::Done(FaceDone { answer, used })

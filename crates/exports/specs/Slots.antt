@@ -1,9 +1,9 @@
 -- Show and its companion as C functions: what they leave for a slot that is filled or empty. Definitions only.
-use Prim.Native.Nat.{ℕ, _+_, _-_, _*_}
+use Prim.Native.Nat.{ℕ, _+_, _*_}
 use mathlib.Core.Bool.{Bool, cond}
 use mathlib.Core.List.{List, [], _∷_}
 use lib.Dec.{eqb}
-use Rattle.show.specs.Show.{widthIn}
+use Rattle.show.specs.Show.{widthIn, coordinatesIn}
 use Rattle.show.specs.declared.StoreKind.{StoreKind}
 use Rattle.show.specs.declared.StoreKind.the-variants as kind
 
@@ -16,9 +16,9 @@ abbrev pub mark : Bool → ℕ
 mark filled = cond filled 1 0
 
 -- the offset and the length of a slot's coordinates in its store: those behind its mark
-abbrev pub coordinatesIn : StoreKind → ℕ → List ℕ
-coordinatesIn s k = (k * widthIn s + 1) ∷ (widthIn s - 1) ∷ []
+abbrev pub coordinatesAt : StoreKind → ℕ → List ℕ
+coordinatesAt s k = (k * widthIn s + 1) ∷ coordinatesIn s ∷ []
 
 -- show leaves them for a filled slot, and no part for an empty one
 abbrev pub part : StoreKind → ℕ → Bool → List ℕ
-part s k filled = cond filled (coordinatesIn s k) (0 ∷ 0 ∷ [])
+part s k filled = cond filled (coordinatesAt s k) (0 ∷ 0 ∷ [])

@@ -1,5 +1,7 @@
 // Show and its companion as C functions. Show's part is an offset and a length in the store named.
+use set::sizes::FACE_COORDINATES;
 use set::sizes::FACE_WIDTH;
+use set::sizes::SPHERE_COORDINATES;
 use set::sizes::SPHERE_WIDTH;
 use show::SlotState;
 use show::StoreKind;
@@ -7,7 +9,7 @@ ghost use mathlib.Core.Path.{_≡_};
 ghost use Prim.Native.Nat.{_<_};
 ghost use Rattle.show.specs.Show.{slotGiven, slotsIn};
 ghost use Rattle.exports.specs.Returns.{Returns, contents};
-ghost use Rattle.exports.specs.Slots.{storeNamed, coordinatesIn, mark, part as Slots·part};
+ghost use Rattle.exports.specs.Slots.{storeNamed, coordinatesAt, mark, part as Slots·part};
 
 // 0 names the face store and every other number the sphere store, as C reads a truth value:
 // document 01 has no refusal for a kind that is neither.
@@ -50,11 +52,11 @@ pub extern "C" fn a5_slot_state(
 // Where a slot's coordinates are in its store: from behind the mark on, and how many.
 fn coordinates(named: StoreKind, slot: usize) -> [usize; 2]
     requires { ⌜ slot < slotsIn named ⌝ }
-    ensures { λ r. ⌜ r ≡ coordinatesIn named slot ⌝ }
+    ensures { λ r. ⌜ r ≡ coordinatesAt named slot ⌝ }
 {
     match named {
-        StoreKind::Face => [slot * FACE_WIDTH + 1, FACE_WIDTH - 1],
-        StoreKind::Sphere => [slot * SPHERE_WIDTH + 1, SPHERE_WIDTH - 1],
+        StoreKind::Face => [slot * FACE_WIDTH + 1, FACE_COORDINATES],
+        StoreKind::Sphere => [slot * SPHERE_WIDTH + 1, SPHERE_COORDINATES],
     }
 }
 

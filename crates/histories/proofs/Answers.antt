@@ -1,16 +1,20 @@
 -- Two sets that calls have left from newly opened ones give the same answers, since the calls take the same triangles on them. Assumes
 -- nothing.
 use mathlib.Core.Path.{_≡_, refl, sym, ap, _∙_}
-use mathlib.Core.Bool.{not}
+use mathlib.Core.Bool.{Bool, not}
+use mathlib.Core.List.{List}
 use Prim.Native.Nat.{ℕ, _<_}
 use lib.Dec.{eqb}
 use lib.ListN.{length}
+use lib.Ieee.{Float}
 use Rattle.answer.specs.Given.{Given, answered, refused, passed, refuseIf, andThen, bind}
 use Rattle.answer.proofs.Given.{then-answered}
 use Rattle.arithmetic.specs.Arith.{ieee}
 use Rattle.coordinates.specs.CoordinateTransforms.{toPolar, toSpherical, toCartesian, fromLonLat, toLonLat}
 use Rattle.coordinates.specs.Conversions.{checkLonLat, checkSpherical, checkFace, finiteSpherical, finiteLonLat, finiteFace}
+use Rattle.coordinates.specs.declared.coords.Cartesian.{Cartesian}
 use Rattle.coordinates.specs.declared.coords.Face.{Face}
+use Rattle.coordinates.specs.declared.coords.SphericalTriangle.{SphericalTriangle}
 use Rattle.coordinates.specs.declared.lonlat.LonLat.{LonLat}
 use Rattle.coordinates.specs.declared.polar.Polar.{Polar}
 use Rattle.coordinates.specs.declared.spherical.Spherical.{Spherical}
@@ -19,22 +23,26 @@ use Rattle.origin.specs.Nearest.{nearestOrigin}
 use Rattle.origin.proofs.LowestNearest.{nearest-is}
 use Rattle.tiling.specs.Index.{triangleIndex, shouldReflect}
 use Rattle.tiling.proofs.Modulo.{index-below-10}
-use Rattle.equal_area.specs.EqualArea.{inverse}
-use Rattle.set.specs.Sizes.{FRAME, FACE-STORE, SPHERE-STORE}
+use Rattle.crs.specs.Frame.{frameRows}
+use Rattle.equal_area.specs.EqualArea.{forward, inverse}
+use Rattle.set.specs.Sizes.{FRAME, FACE-STORE, SPHERE-SLOTS, SPHERE-STORE}
 use Rattle.set.specs.Set.{Set, checkSet}
 use Rattle.set.specs.Checks.{checkOrigin, checkCall}
 use Rattle.set.proofs.Lengths.{call-passed}
-use Rattle.stores.specs.Slots.{faceSlot}
+use Rattle.stores.specs.Slots.{faceSlot, sphereSlot}
+use Rattle.stores.proofs.Within.{sphere-below}
 use Rattle.stores.specs.declared.used.Used.{Used}
+use Rattle.triangles.specs.Triangles.{crossTaken}
 use Rattle.triangles.specs.Taken.{faceFor, usedFor}
 use Rattle.dodecahedron.specs.Place.{finitePlace}
 use Rattle.dodecahedron.specs.Work.{Work, answerOf, finish}
-use Rattle.dodecahedron.specs.Projection.{frameConstants, polarAbout, facePoint, forwardCore, inverseCore}
+use Rattle.dodecahedron.specs.Projection.{frameConstants, polarAbout, forwardCore, inverseCore}
 use Rattle.dodecahedron.specs.Calls.{forwardGiven, inverseGiven, placeGiven, unplaceGiven}
 use Rattle.dodecahedron.proofs.Ended.{forward-is, inverse-is, place-is, unplace-is}
 use Rattle.histories.specs.EveryList.{SameAnswers}
 use Rattle.histories.proofs.Told.{Since}
-use Rattle.histories.proofs.Taken.{Good, face-taken, sphere-taken}
+use Rattle.histories.specs.Defined.{sphereDefined}
+use Rattle.histories.proofs.Taken.{Good, face-taken, sphere-taken, cross-taken}
 
 -- what follows a check, if that gives the same and what follows does wherever it passes
 then-same : {X : Type 0} (check check' : Given (Unit {0})) (a b : Given X) → check ≡ check' → (check ≡ passed → a ≡ b) → andThen check a ≡ andThen check' b
@@ -66,10 +74,34 @@ module _ (w v : Since) (s n : Set) (good : Good w s) (also : Good v n) where
   same-used : (o : ℕ) (polar : Polar) → o < 12 → usedFor ieee ORIGINS s o polar ≡ usedFor ieee ORIGINS n o polar
   unfolding usedFor
   same-used o polar h =
-      let i = triangleIndex ieee (polar .gamma) in
-      let r = shouldReflect ieee polar in
-      let small = index-below-10 ieee (polar .gamma) in
       rw (sphere-taken w s good o i r h small, sphere-taken v n also o i r h small, good .rows, also .rows)
+      (with-cross (sphereDefined (frameRows ieee ORIGINS) k) refl)
+    where
+      i : ℕ
+      i = triangleIndex ieee (polar .gamma)
+
+      small : i < 10
+      small = index-below-10 ieee (polar .gamma)
+
+      r : Bool
+      r = shouldReflect ieee polar
+
+      k : ℕ
+      k = sphereSlot o i r
+
+      below : k < SPHERE-SLOTS
+      below = sphere-below o i r h small
+
+      -- what is used, on a set with these spheres
+      used : List Float → SphericalTriangle → Given Used
+      used spheres t = answered (record { origin = o; index = i; reflected = r; triangle = t; bxc = crossTaken ieee spheres k t })
+
+      with-cross : (d : Given SphericalTriangle) → sphereDefined (frameRows ieee ORIGINS) k ≡ d → bind d (used (s .spheres)) ≡ bind d (used (n .spheres))
+      with-cross (refused m) e = refl
+      with-cross (answered t) e =
+          let one = cross-taken w s good k t below (rw (good .rows) e) in
+          let other = cross-taken v n also k t below (rw (also .rows) e) in
+          ap (λ (c : Cartesian). answered (record { origin = o; index = i; reflected = r; triangle = t; bxc = c })) (one ∙ sym other)
 
   same-forward : (p : Spherical) (o : ℕ) → o < 12 → forwardCore ieee ORIGINS s p o ≡ forwardCore ieee ORIGINS n p o
   unfolding forwardCore
@@ -78,7 +110,7 @@ module _ (w v : Since) (s n : Set) (good : Good w s) (also : Good v n) where
       let e = same-used o (polarAbout ieee (originAt ORIGINS o) v) h in
       λ j.
       bind (e j) λ u.
-      answered (record { answer = facePoint ieee (frameConstants ieee (same-frame j)) v (u .triangle) (same-faces u j); used = u })
+      answered (record { answer = forward ieee (frameConstants ieee (same-frame j)) v (u .triangle) (u .bxc) (same-faces u j); used = u })
 
   same-inverse : (f : Face) (o : ℕ) → o < 12 → inverseCore ieee ORIGINS s f o ≡ inverseCore ieee ORIGINS n f o
   unfolding inverseCore

@@ -17,7 +17,7 @@ use Rattle.origin.specs.Origins.{ORIGINS}
 use Rattle.tiling.specs.FaceTriangles.{faceTriangle}
 use Rattle.crs.specs.Frame.{frameRows}
 use Rattle.set.specs.Sizes.{FRAME, FACE-SLOTS, FACE-WIDTH, SPHERE-SLOTS, SPHERE-WIDTH}
-use Rattle.stores.specs.Slots.{filled, faceRun, sphereRun}
+use Rattle.stores.specs.Slots.{filled, faceRun, triangleRun}
 use Rattle.stores.specs.Slots.{faceSlot, sphereSlot}
 use Rattle.set.specs.Open.{openGiven}
 use Rattle.dodecahedron.specs.declared.place.Place.{Place}
@@ -156,7 +156,7 @@ module _ (b : Set) (ready : openGiven ieee ORIGINS b ≡ passed) (cs : List Call
 
   -- the sphere triangle of its slot, by its definition
   pub place-shows-sphere : let k = sphereSlot (u .origin) (u .index) (u .reflected) in
-      (t : SphericalTriangle) × (sphereDefined (lastOpen b whole .frame) k ≡ answered t) × (shownOn (left b whole) kind.Sphere k ≡ sphereRun t)
+      (t : SphericalTriangle) × (sphereDefined (lastOpen b whole .frame) k ≡ answered t) × (shownOn (left b whole) kind.Sphere k ≡ triangleRun t)
   place-shows-sphere =
       let k = sphereSlot (u .origin) (u .index) (u .reflected) in
       sphere-shown b ready whole k (sphere-below (u .origin) (u .index) (u .reflected) (used-on .origin) (used-on .index))

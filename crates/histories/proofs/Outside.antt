@@ -93,7 +93,7 @@ module _ (s : Set) where
   spheres-kept (answered u) fits =
       let on = fits u refl in
       let k = sphereSlot (u .origin) (u .index) (u .reflected) in
-      let run = sphereRun (u .triangle) in
+      let run = sphereRun (u .triangle) (u .bxc) in
       let below = sphere-below (u .origin) (u .index) (u .reflected) (on .origin) (on .index) in
       let long = on .fits .spheres in
       record {

@@ -74,13 +74,18 @@ module _ {A : Type 0} where
   run-put [] (suc at) ys l = absurd (omega arith)
   run-put (x ∷ xs) (suc at) ys l = run-put xs at ys (omega arith)
 
-  -- a run without its first element
-  pub run-tail : (xs : List A) (at n : ℕ) → run xs (at + 1) n ≡ drop 1 (run xs at (suc n))
-  run-tail xs at n = ap (take n) (sym (drop-drop 1 at xs)) ∙ go (drop at xs)
+  -- a run within a run
+  pub run-run : (xs : List A) (at w i n : ℕ) → i + n ≤ w → run (run xs at w) i n ≡ run xs (at + i) n
+  run-run xs at w i n h = within (drop at xs) w i n h ∙ ap (take n) (drop-drop i at xs)
     where
-      go : (zs : List A) → take n (drop 1 zs) ≡ drop 1 (take (suc n) zs)
-      go [] = take-nil n
-      go (z ∷ zs) = refl
+      within : (zs : List A) (w i n : ℕ) → i + n ≤ w → run (take w zs) i n ≡ run zs i n
+      within [] w i n h = ap (λ (l : List A). run l i n) (take-nil w)
+      within (z ∷ zs) zero zero zero h = refl
+      within (z ∷ zs) zero zero (suc n) h = absurd (omega arith)
+      within (z ∷ zs) zero (suc i) n h = absurd (omega arith)
+      within (z ∷ zs) (suc w) zero zero h = refl
+      within (z ∷ zs) (suc w) zero (suc n) h = ap (λ (l : List A). z ∷ l) (within zs w zero n (omega arith))
+      within (z ∷ zs) (suc w) (suc i) n h = within zs w i n (omega arith)
 
   -- a run of one value
   pub run-replicate : (m at n : ℕ) (v : A) → at + n ≤ m → run (replicate m v) at n ≡ replicate n v

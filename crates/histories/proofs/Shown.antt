@@ -1,9 +1,9 @@
 -- What show and its companion say after every list of calls: filled for a slot that has been used, with the coordinates defined for it,
 -- and empty for any other. Assumes nothing.
-use mathlib.Core.Path.{_≡_, refl, ap, _∙_}
+use mathlib.Core.Path.{_≡_, ap, _∙_}
 use mathlib.Core.Bool.{Bool, true, false}
 use mathlib.Core.List.{List, []}
-use Prim.Native.Nat.{ℕ, _+_, _-_, _*_, _<_}
+use Prim.Native.Nat.{ℕ, _+_, _*_, _<_}
 use native.Mathlib.Omega.{arith}
 use lib.ListN.{length}
 use lib.Ieee.{Float}
@@ -12,10 +12,11 @@ use Rattle.answer.specs.Given.{Given, answered, passed}
 use Rattle.arithmetic.specs.Arith.{ieee}
 use Rattle.coordinates.specs.declared.coords.SphericalTriangle.{SphericalTriangle}
 use Rattle.tiling.specs.FaceTriangles.{faceTriangle}
-use Rattle.set.specs.Sizes.{FACE-SLOTS, FACE-WIDTH, FACE-STORE, SPHERE-SLOTS, SPHERE-WIDTH, SPHERE-STORE}
+use Rattle.set.specs.Sizes.{FACE-SLOTS, FACE-COORDINATES, FACE-WIDTH, FACE-STORE}
+use Rattle.set.specs.Sizes.{SPHERE-SLOTS, SPHERE-COORDINATES, SPHERE-WIDTH, SPHERE-STORE}
 use Rattle.stores.specs.Slots as slots
-use Rattle.stores.specs.Slots.{filled, faceRun, sphereRun}
-use Rattle.show.specs.Show.{named, slotsIn, widthIn, slotGiven, whereFilled, partShown}
+use Rattle.stores.specs.Slots.{filled, faceRun, triangleRun}
+use Rattle.show.specs.Show.{named, slotsIn, widthIn, coordinatesIn, slotGiven, whereFilled, partShown}
 use Rattle.show.specs.declared.StoreKind.{StoreKind}
 use Rattle.show.specs.declared.StoreKind.the-variants as kind
 use Rattle.set.specs.Set.{Set}
@@ -24,7 +25,7 @@ use Rattle.origin.specs.Origins.{ORIGINS}
 use Rattle.histories.specs.Lists.{Call}
 use Rattle.histories.specs.Defined.{sphereDefined}
 use Rattle.histories.specs.EveryList.{left, lastOpen}
-use Rattle.histories.proofs.Stores.{slot-run}
+use Rattle.histories.proofs.Stores.{slot-part}
 use Rattle.histories.proofs.Told.{sinceOpen}
 use Rattle.histories.proofs.Theorem.{good-left, face-mark, sphere-mark, face-slot, sphere-triangle}
 
@@ -42,7 +43,7 @@ unfolding slotGiven
 state-is s which k b f g h e = rw (f, g, lt-leb (slotsIn which) k h, e)
 
 part-is : (s : Set) (which : StoreKind) (k : ℕ) (b : Bool) → stateOn s which k ≡ answered b
-    → shownOn s which k ≡ whereFilled (answered b) (slots.run (named which (s .faces) (s .spheres)) (k * widthIn which + 1) (widthIn which - 1))
+    → shownOn s which k ≡ whereFilled (answered b) (slots.run (named which (s .faces) (s .spheres)) (k * widthIn which + 1) (coordinatesIn which))
 unfolding partShown
 part-is s which k b e = rw e
 
@@ -57,18 +58,18 @@ module _ (b : Set) (ready : openGiven ieee ORIGINS b ≡ passed) (cs : List Call
       let good = good-left b ready cs in
       state-is (left b cs) kind.Sphere k _ (good .face-long) (good .sphere-long) h (sphere-mark b ready cs k h)
 
-  -- a used slot's part is the triangle defined for it
+  -- a used slot's part is the triangle defined for it, without b × c
   pub face-shown : (k : ℕ) → k < FACE-SLOTS → sinceOpen b cs .faces k ≡ true → shownOn (left b cs) kind.Face k ≡ faceRun (faceTriangle ieee k)
   face-shown k h u =
       part-is (left b cs) kind.Face k true (face-state k h ∙ ap answered u)
-      ∙ slot-run FACE-WIDTH (left b cs .faces) k (omega arith) 6 _ refl (face-slot b ready cs k true h u)
+      ∙ slot-part FACE-WIDTH (left b cs .faces) k (omega arith) 1 FACE-COORDINATES _ (omega arith) (face-slot b ready cs k true h u)
 
   pub sphere-shown : (k : ℕ) → k < SPHERE-SLOTS → sinceOpen b cs .spheres k ≡ true
-      → (t : SphericalTriangle) × (sphereDefined (lastOpen b cs .frame) k ≡ answered t) × (shownOn (left b cs) kind.Sphere k ≡ sphereRun t)
+      → (t : SphericalTriangle) × (sphereDefined (lastOpen b cs .frame) k ≡ answered t) × (shownOn (left b cs) kind.Sphere k ≡ triangleRun t)
   sphere-shown k h u =
       let t = sphere-triangle b ready cs k h u in
       let part = part-is (left b cs) kind.Sphere k true (sphere-state k h ∙ ap answered u) in
-      (t .0, t .1, part ∙ slot-run SPHERE-WIDTH (left b cs .spheres) k (omega arith) 9 _ refl (t .2))
+      (t .0, t .1, part ∙ slot-part SPHERE-WIDTH (left b cs .spheres) k (omega arith) 1 SPHERE-COORDINATES _ (omega arith) (t .2))
 
   -- and any other's is empty
   pub face-not-shown : (k : ℕ) → k < FACE-SLOTS → sinceOpen b cs .faces k ≡ false → shownOn (left b cs) kind.Face k ≡ []

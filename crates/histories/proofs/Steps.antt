@@ -9,6 +9,8 @@ use lib.ListN.{length}
 use lib.Ieee.{Float}
 use Rattle.answer.specs.Given.{Given, answered, refused}
 use Rattle.arithmetic.specs.Arith.{ieee}
+use Rattle.coordinates.specs.Vector.{cross}
+use Rattle.coordinates.specs.declared.coords.Cartesian.{Cartesian}
 use Rattle.coordinates.specs.declared.coords.SphericalTriangle.{SphericalTriangle}
 use Rattle.set.specs.Sizes.{FACE-SLOTS, FACE-WIDTH, FACE-STORE, SPHERE-SLOTS, SPHERE-WIDTH, SPHERE-STORE}
 use Rattle.stores.specs.Slots.{sphereRun, slotWritten}
@@ -21,7 +23,7 @@ use Rattle.histories.specs.Since.{Slots, facesAt}
 use Rattle.histories.specs.Defined.{sphereDefined}
 use Rattle.histories.proofs.Stores.{Holds, written-long, written-holds}
 use Rattle.stores.proofs.Within.{sphere-below}
-use Rattle.histories.proofs.Taken.{Good, fresh-good, faceCoordinates, runOf, sphereCoordinates, sphere-taken}
+use Rattle.histories.proofs.Taken.{Good, fresh-good, faceCoordinates, runOf, sphereCoordinates, sphere-taken, cross-taken}
 use Rattle.histories.proofs.Told.{Since, counted, since}
 use Rattle.histories.proofs.Uses.{EffectOn, effect-fits}
 
@@ -51,12 +53,12 @@ module _ (w : Since) (s : Set) (good : Good w s) where
   abbrev SphereStore : Slots → List Float → Type 0
   SphereStore u xs = (length xs ≡ SPHERE-STORE) × Holds SPHERE-WIDTH SPHERE-SLOTS (sphereCoordinates (w .frame)) u xs
 
-  -- the sphere slot of an answered call, which gets the triangle defined for it
-  sphere-written : (k : ℕ) (t : SphericalTriangle) → k < SPHERE-SLOTS → sphereDefined (w .frame) k ≡ answered t
-      → SphereStore (λ j. w .spheres j || eqb j k) (slotWritten SPHERE-WIDTH (s .spheres) k (sphereRun t))
-  sphere-written k t h e =
+  -- the sphere slot of an answered call, which gets the triangle defined for it and b × c
+  sphere-written : (k : ℕ) (t : SphericalTriangle) (bxc : Cartesian) → k < SPHERE-SLOTS → sphereDefined (w .frame) k ≡ answered t
+      → cross ieee (t .b) (t .c) ≡ bxc → SphereStore (λ j. w .spheres j || eqb j k) (slotWritten SPHERE-WIDTH (s .spheres) k (sphereRun t bxc))
+  sphere-written k t bxc h e crossed =
       let runs = sphereCoordinates (w .frame) in
-      let r : runs k ≡ sphereRun t = ap runOf e in
+      let r : runs k ≡ sphereRun t bxc = ap runOf e ∙ ap (sphereRun t) crossed in
       let size : suc (length (runs k)) ≡ SPHERE-WIDTH = rw r in (
         rw (← r) (written-long SPHERE-WIDTH SPHERE-SLOTS runs (w .spheres) (s .spheres) (good .sphere-long) (good .sphere) k h size),
         rw (← r) (written-holds SPHERE-WIDTH SPHERE-SLOTS runs (w .spheres) (s .spheres) (good .sphere-long) (good .sphere) k h size),
@@ -79,7 +81,9 @@ module _ (w : Since) (s : Set) (good : Good w s) where
       let defined : sphereDefined (w .frame) k ≡ answered (u .triangle) =
       sym (sphere-taken w s good (u .origin) (u .index) (u .reflected) (on .origin) (on .index)) ∙ on .taken in
       let a = faces-written (w .faces) (s .faces) (good .face-long, good .face) (u .index) (u .reflected) (on .index) in
-      let b = sphere-written k (u .triangle) (sphere-below (u .origin) (u .index) (u .reflected) (on .origin) (on .index)) defined in
+      let below = sphere-below (u .origin) (u .index) (u .reflected) (on .origin) (on .index) in
+      let crossed = sym (cross-taken w s good k (u .triangle) below defined) ∙ on .crossed in
+      let b = sphere-written k (u .triangle) (u .bxc) below defined crossed in
       record { rows = good .rows; frame = good .frame; face-long = a .0; sphere-long = b .0; face = a .1; sphere = b .1 }
 
   -- by what a call does to the set

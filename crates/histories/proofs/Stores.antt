@@ -8,7 +8,7 @@ use native.Mathlib.Nat.{add-zero, mul-le-mul-right}
 use native.Mathlib.Decide.{ℕ-discrete}
 use native.Mathlib.Omega.{arith}
 use lib.Dec.{eqb}
-use lib.ListN.{length, getD, drop, replicate}
+use lib.ListN.{length, getD, replicate}
 use lib.Ieee.{Float, nan, eq, ofBits}
 use borrow.Author.Tests.{eq-eqb, ne-eqb}
 use Rattle.arithmetic.specs.Numbers.{0·0, 1·0}
@@ -16,7 +16,7 @@ use Rattle.stores.specs.Slots.{run, put, filled, slotWritten}
 use Rattle.stores.proofs.Runs.{length-put}
 use Rattle.histories.specs.Since.{Slots}
 use Rattle.histories.specs.Defined.{slotAt}
-use Rattle.histories.proofs.Runs.{Outside, put-outside, getD-beyond, getD-run, run-same, run-put, run-tail, other-slot}
+use Rattle.histories.proofs.Runs.{Outside, put-outside, getD-beyond, getD-run, run-same, run-put, run-run, other-slot}
 
 -- ---- a slot that is written, whatever the store holds
 
@@ -80,8 +80,9 @@ module _ (w : ℕ) (xs : List Float) (k : ℕ) (positive : 0 < w) where
   slot-filled true r e = mark-at ∙ ap (λ (l : List Float). eq (getD l 0 nan) 1·0) e ∙ one-marks
   slot-filled false r e = mark-at ∙ ap (λ (l : List Float). eq (getD l 0 nan) 1·0) e ∙ zeros-empty w positive
 
-  pub slot-run : (n : ℕ) (r : List Float) → w ≡ suc n → slotAt w xs k ≡ 1·0 ∷ r → run xs (k * w + 1) n ≡ r
-  slot-run n r e h = run-tail xs (k * w) n ∙ ap (λ (m : ℕ). drop 1 (run xs (k * w) m)) (sym e) ∙ ap (drop 1) h
+  -- n numbers from the i-th of a slot on
+  pub slot-part : (i n : ℕ) (r : List Float) → i + n ≤ w → slotAt w xs k ≡ r → run xs (k * w + i) n ≡ run r i n
+  slot-part i n r h e = sym (run-run xs (k * w) w i n h) ∙ ap (λ (l : List Float). run l i n) e
 
 -- behind a store's end no slot is filled
 pub beyond-empty : (xs : List Float) (i : ℕ) → length xs ≤ i → filled xs i ≡ false

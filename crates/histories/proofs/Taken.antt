@@ -1,6 +1,6 @@
 -- What holds of a set after every list of calls, and that the triangles which a call then takes are those that are defined. Assumes
 -- nothing.
-use mathlib.Core.Path.{_≡_, refl, sym, ap}
+use mathlib.Core.Path.{_≡_, refl, sym, ap, _∙_}
 use mathlib.Core.Bool.{Bool, true, false, cond}
 use mathlib.Core.List.{List, [], _∷_}
 use Prim.Native.Nat.{ℕ, _+_, _*_, _/_, _%_, _<_}
@@ -13,21 +13,24 @@ use borrow.Author.Tests.{le-leb, lt-leb}
 use Rattle.answer.specs.Given.{Given, answered, refused}
 use Rattle.arithmetic.specs.Arith.{ieee}
 use Rattle.arithmetic.specs.Numbers.{0·0, 1·0}
+use Rattle.coordinates.specs.Vector.{cross}
+use Rattle.coordinates.specs.declared.coords.Cartesian.{Cartesian}
 use Rattle.coordinates.specs.declared.coords.SphericalTriangle.{SphericalTriangle}
 use Rattle.origin.specs.Origins.{ORIGINS, originAt}
 use Rattle.tiling.specs.FaceTriangles.{faceTriangle}
 use Rattle.crs.specs.Frame.{frameRows}
-use Rattle.set.specs.Sizes.{FACE-SLOTS, FACE-WIDTH, FACE-STORE, SPHERE-SLOTS, SPHERE-WIDTH, SPHERE-STORE}
-use Rattle.stores.specs.Slots.{run, filled, faceRun, faceIn, sphereRun, sphereIn}
+use Rattle.set.specs.Sizes.{FACE-SLOTS, FACE-COORDINATES, FACE-WIDTH, FACE-STORE}
+use Rattle.set.specs.Sizes.{SPHERE-SLOTS, SPHERE-COORDINATES, SPHERE-CROSS, SPHERE-WIDTH, SPHERE-STORE}
+use Rattle.stores.specs.Slots.{run, filled, faceRun, faceIn, sphereRun, sphereIn, vectorIn}
 use Rattle.stores.specs.Slots.{sourceSlot, sphereSlot}
 use Rattle.stores.proofs.Within.{sphere-below}
 use Rattle.set.specs.Open.{newSet}
-use Rattle.triangles.specs.Triangles.{faceTaken, sphereBuilt, sphereTaken}
+use Rattle.triangles.specs.Triangles.{faceTaken, sphereBuilt, sphereTaken, crossTaken}
 use Rattle.set.specs.Set.{Set}
 use Rattle.histories.specs.Defined.{sphereDefined, slotAt}
 use Rattle.histories.proofs.Runs.{length-run, run-replicate}
 use Rattle.histories.proofs.Told.{Since, newly}
-use Rattle.histories.proofs.Stores.{slotOf, slot-filled, slot-run, beyond-empty, Holds}
+use Rattle.histories.proofs.Stores.{slotOf, slot-filled, slot-part, beyond-empty, Holds}
 
 -- ---- what a slot is defined to hold behind its mark
 
@@ -36,7 +39,7 @@ faceCoordinates k = faceRun (faceTriangle ieee k)
 
 -- nothing where no triangle is defined: such a slot is never used
 abbrev pub runOf : Given SphericalTriangle → List Float
-runOf (answered t) = sphereRun t
+runOf (answered t) = sphereRun t (cross ieee (t .b) (t .c))
 runOf (refused n) = []
 
 abbrev pub sphereCoordinates : List Float → ℕ → List Float
@@ -95,11 +98,11 @@ module _ (w : Since) (s : Set) (good : Good w s) where
   face-taken k = by (decLt k FACE-SLOTS)
     where
       taken : Bool → Type 0
-      taken b = cond b (faceIn (run (s .faces) (k * FACE-WIDTH + 1) 6)) (faceTriangle ieee k) ≡ faceTriangle ieee k
+      taken b = cond b (faceIn (run (s .faces) (k * FACE-WIDTH + 1) FACE-COORDINATES)) (faceTriangle ieee k) ≡ faceTriangle ieee k
 
       inside : (b : Bool) → slotAt FACE-WIDTH (s .faces) k ≡ slotOf b FACE-WIDTH (faceCoordinates k) → taken (filled (s .faces) (k * FACE-WIDTH))
       inside true e =
-          rw (slot-filled FACE-WIDTH (s .faces) k (omega arith) true _ e) (ap faceIn (slot-run FACE-WIDTH (s .faces) k (omega arith) 6 _ refl e))
+          rw (slot-filled FACE-WIDTH (s .faces) k (omega arith) true _ e) (ap faceIn (slot-part FACE-WIDTH (s .faces) k (omega arith) 1 FACE-COORDINATES _ (omega arith) e))
       inside false e = rw (slot-filled FACE-WIDTH (s .faces) k (omega arith) false (faceCoordinates k) e)
 
       by : Dec (k < FACE-SLOTS) → taken (filled (s .faces) (k * FACE-WIDTH))
@@ -124,13 +127,14 @@ module _ (w : Since) (s : Set) (good : Good w s) where
       built-is = rw (good .frame, face-taken (sourceSlot i r)) (sym (slot-defined (w .frame) o i r g h))
 
       held : Given SphericalTriangle
-      held = answered (sphereIn (run (s .spheres) (k * SPHERE-WIDTH + 1) 9))
+      held = answered (sphereIn (run (s .spheres) (k * SPHERE-WIDTH + 1) SPHERE-COORDINATES))
 
       long : length (slotAt SPHERE-WIDTH (s .spheres) k) ≡ SPHERE-WIDTH
       long = length-run (s .spheres) (k * SPHERE-WIDTH) SPHERE-WIDTH (omega (arith, below, good .sphere-long))
 
       read : (d : Given SphericalTriangle) → slotAt SPHERE-WIDTH (s .spheres) k ≡ 1·0 ∷ runOf d → held ≡ d
-      read (answered t) e = ap (λ (l : List Float). answered (sphereIn l)) (slot-run SPHERE-WIDTH (s .spheres) k (omega arith) 9 _ refl e)
+      read (answered t) e =
+          ap (λ (l : List Float). answered (sphereIn l)) (slot-part SPHERE-WIDTH (s .spheres) k (omega arith) 1 SPHERE-COORDINATES _ (omega arith) e)
       read (refused n) e = absurd (omega (arith, ap length e, long))
 
       go : (b : Bool) → slotAt SPHERE-WIDTH (s .spheres) k ≡ slotOf b SPHERE-WIDTH (sphereCoordinates (w .frame) k)
@@ -138,3 +142,23 @@ module _ (w : Since) (s : Set) (good : Good w s) where
       go true e = rw (slot-filled SPHERE-WIDTH (s .spheres) k (omega arith) true _ e) (read (sphereDefined (w .frame) k) e)
       go false e =
           rw (slot-filled SPHERE-WIDTH (s .spheres) k (omega arith) false (sphereCoordinates (w .frame) k) e) built-is
+
+  -- and b × c is that of the triangle defined for the slot, read or formed
+  pub cross-taken : (k : ℕ) (t : SphericalTriangle) → k < SPHERE-SLOTS → sphereDefined (w .frame) k ≡ answered t
+      → crossTaken ieee (s .spheres) k t ≡ cross ieee (t .b) (t .c)
+  unfolding crossTaken
+  cross-taken k t h e = go (w .spheres k) (good .sphere k h)
+    where
+      own : Cartesian
+      own = cross ieee (t .b) (t .c)
+
+      held : Cartesian
+      held = vectorIn (run (s .spheres) (k * SPHERE-WIDTH + SPHERE-CROSS) 3)
+
+      go : (b : Bool) → slotAt SPHERE-WIDTH (s .spheres) k ≡ slotOf b SPHERE-WIDTH (sphereCoordinates (w .frame) k)
+          → cond (filled (s .spheres) (k * SPHERE-WIDTH)) held own ≡ own
+      go true f =
+          let holds : slotAt SPHERE-WIDTH (s .spheres) k ≡ 1·0 ∷ sphereRun t own = f ∙ ap (λ (d : Given SphericalTriangle). 1·0 ∷ runOf d) e in
+          rw (slot-filled SPHERE-WIDTH (s .spheres) k (omega arith) true _ f)
+          (ap vectorIn (slot-part SPHERE-WIDTH (s .spheres) k (omega arith) SPHERE-CROSS 3 _ (omega arith) holds))
+      go false f = rw (slot-filled SPHERE-WIDTH (s .spheres) k (omega arith) false (sphereCoordinates (w .frame) k) f)

@@ -12,6 +12,7 @@ use lib.Ieee.{Float}
 use Rattle.answer.specs.Given.{Given, answered, refused, passed}
 use Rattle.arithmetic.specs.Arith.{ieee}
 use Rattle.arithmetic.specs.Numbers.{1·0}
+use Rattle.coordinates.specs.Vector.{cross}
 use Rattle.coordinates.specs.declared.coords.SphericalTriangle.{SphericalTriangle}
 use Rattle.origin.specs.Origins.{ORIGINS}
 use Rattle.set.specs.Sizes.{FACE-SLOTS, FACE-WIDTH, SPHERE-SLOTS, SPHERE-WIDTH}
@@ -34,10 +35,10 @@ use Rattle.histories.proofs.UsedLast.{face-used-last, sphere-used-last}
 slot-known : (w : ℕ) (xs r : List Float) (k : ℕ) (b c : Bool) → b ≡ c → slotAt w xs k ≡ slotOf b w r → slotAt w xs k ≡ slotOf c w r
 slot-known w xs r k b c e h = h ∙ ap (λ (d : Bool). slotOf d w r) e
 
--- a slot of ten numbers that begins with a mark holds a triangle: one that is defined
+-- a slot that begins with a mark, and not with nothing behind it, holds a triangle: one that is defined
 triangle-in : (xs : List Float) (k : ℕ) (g : Given SphericalTriangle) → k * SPHERE-WIDTH + SPHERE-WIDTH ≤ length xs
     → slotAt SPHERE-WIDTH xs k ≡ 1·0 ∷ runOf g
-    → (t : SphericalTriangle) × (g ≡ answered t) × (slotAt SPHERE-WIDTH xs k ≡ 1·0 ∷ sphereRun t)
+    → (t : SphericalTriangle) × (g ≡ answered t) × (slotAt SPHERE-WIDTH xs k ≡ 1·0 ∷ sphereRun t (cross ieee (t .b) (t .c)))
 triangle-in xs k (answered t) l e = (t, refl, e)
 triangle-in xs k (refused n) l e = absurd (omega (arith, ap length e, length-run xs (k * SPHERE-WIDTH) SPHERE-WIDTH l))
 
@@ -72,7 +73,8 @@ module _ (b : Set) (ready : openGiven ieee ORIGINS b ≡ passed) (cs : List Call
   sphere-slot k u h e = slot-known SPHERE-WIDTH (now .spheres) (sphereCoordinates (told .frame) k) k (told .spheres k) u e (good-left .sphere k h)
 
   pub sphere-triangle : (k : ℕ) → k < SPHERE-SLOTS → told .spheres k ≡ true
-      → (t : SphericalTriangle) × (sphereDefined (lastOpen b cs .frame) k ≡ answered t) × (slotAt SPHERE-WIDTH (now .spheres) k ≡ 1·0 ∷ sphereRun t)
+      → (t : SphericalTriangle) × (sphereDefined (lastOpen b cs .frame) k ≡ answered t)
+      × (slotAt SPHERE-WIDTH (now .spheres) k ≡ 1·0 ∷ sphereRun t (cross ieee (t .b) (t .c)))
   sphere-triangle k h e =
       let t = triangle-in (now .spheres) k _ (omega (arith, good-left .sphere-long)) (sphere-slot k true h e) in
       (t .0, ap (λ (frame : List Float). sphereDefined frame k) (sym (frame-opened b cs)) ∙ t .1, t .2)

@@ -1,5 +1,5 @@
--- What an answered call tells of the slots that it uses, whatever the buffers hold: they lie in the stores, and the sphere triangle is
--- the one that the set gives for its slot. A call that joins the list has one clause here, in `effect-fits`. Assumes nothing.
+-- What an answered call tells of the slots that it uses, whatever the buffers hold: they lie in the stores, and the sphere triangle and
+-- b × c are those that the set gives for its slot. A call that joins the list has one clause here, in `effect-fits`. Assumes nothing.
 use mathlib.Core.Path.{_≡_, refl, sym, ap, subst, _∙_}
 use Prim.Native.Nat.{ℕ, _<_}
 use Rattle.answer.specs.Given.{Given, answered, refused, passed, andThen}
@@ -20,7 +20,7 @@ use Rattle.set.specs.Checks.{checkCall}
 use Rattle.set.proofs.Lengths.{Fits, set-passed, call-passed}
 use Rattle.stores.specs.Slots.{sourceSlot, sphereSlot}
 use Rattle.stores.specs.declared.used.Used.{Used}
-use Rattle.triangles.specs.Triangles.{sphereTaken}
+use Rattle.triangles.specs.Triangles.{sphereTaken, crossTaken}
 use Rattle.triangles.specs.Taken.{usedFor}
 use Rattle.triangles.proofs.Within.{answered-same}
 use Rattle.dodecahedron.specs.Place.{finitePlace}
@@ -35,6 +35,7 @@ pub record UsedOn (s : Set) (u : Used) : Type 0 where
   pub index : u .index < 10
   pub taken : sphereTaken ieee s (originAt ORIGINS (u .origin)) (sphereSlot (u .origin) (u .index) (u .reflected)) (sourceSlot (u .index) (u .reflected))
       ≡ answered (u .triangle)
+  pub crossed : crossTaken ieee (s .spheres) (sphereSlot (u .origin) (u .index) (u .reflected)) (u .triangle) ≡ u .bxc
 
 abbrev pub EffectOn : Set → Effect → Type 0
 EffectOn s (writes g) = Unit {0}
@@ -64,7 +65,8 @@ module _ (s : Set) (o : ℕ) where
       let i = triangleIndex ieee (polar .gamma) in
       let r = shouldReflect ieee polar in
       let b = bind-answered (sphereTaken ieee s (originAt ORIGINS o) (sphereSlot o i r) (sourceSlot i r)) _ u e in
-      subst (UsedOn s) (answered-same (b .2)) (record { fits = fits; origin = h; index = index-below-10 ieee (polar .gamma); taken = b .1 })
+      subst (UsedOn s) (answered-same (b .2))
+      (record { fits = fits; origin = h; index = index-below-10 ieee (polar .gamma); taken = b .1; crossed = refl })
 
   -- what checks that passed tell of the set and the origin
   abbrev Told : Type 0

@@ -9,6 +9,7 @@ use lib.Ieee.{nan}
 use Rattle.answer.specs.Given.{answered, passed}
 use Rattle.arithmetic.specs.Arith.{ieee}
 use Rattle.arithmetic.specs.Numbers.{0·0, 1·0}
+use Rattle.coordinates.specs.Vector.{cross}
 use Rattle.coordinates.specs.declared.coords.Face.{Face}
 use Rattle.coordinates.specs.declared.coords.SphericalTriangle.{SphericalTriangle}
 use Rattle.coordinates.specs.declared.lonlat.LonLat.{LonLat}
@@ -68,8 +69,10 @@ pub record EveryList (b : Set) (cs : List Call) : Type 0 where
   pub sphere-filled : (k : ℕ) → k < SPHERE-SLOTS → (filled (left b cs .spheres) (k * SPHERE-WIDTH) ≡ true) ↔ SphereUsed b cs k
   -- "It then holds, bit for bit, the triangle that document 01 defines for it", behind its mark
   pub face-holds : (k : ℕ) → k < FACE-SLOTS → FaceUsed b cs k → slotAt FACE-WIDTH (left b cs .faces) k ≡ 1·0 ∷ faceRun (faceTriangle ieee k)
+  -- Paper 6: and behind it "the cross product of its own b and c, in the Rust's order of operations"
   pub sphere-holds : (k : ℕ) → k < SPHERE-SLOTS → SphereUsed b cs k
-      → (t : SphericalTriangle) × (sphereDefined (lastOpen b cs .frame) k ≡ answered t) × (slotAt SPHERE-WIDTH (left b cs .spheres) k ≡ 1·0 ∷ sphereRun t)
+      → (t : SphericalTriangle) × (sphereDefined (lastOpen b cs .frame) k ≡ answered t)
+      × (slotAt SPHERE-WIDTH (left b cs .spheres) k ≡ 1·0 ∷ sphereRun t (cross ieee (t .b) (t .c)))
   -- "every other slot holds only 0.0", which is +0.0; the stores are their slots and nothing more
   pub face-else : (k : ℕ) → k < FACE-SLOTS → (FaceUsed b cs k → ⊥) → slotAt FACE-WIDTH (left b cs .faces) k ≡ replicate FACE-WIDTH 0·0
   pub sphere-else : (k : ℕ) → k < SPHERE-SLOTS → (SphereUsed b cs k → ⊥) → slotAt SPHERE-WIDTH (left b cs .spheres) k ≡ replicate SPHERE-WIDTH 0·0

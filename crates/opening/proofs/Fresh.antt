@@ -27,7 +27,7 @@ use Rattle.set.specs.Set.{Set, checkSet}
 use Rattle.set.specs.Open.{newSet}
 use Rattle.set.proofs.Lengths.{Fits, set-passes, origin-passed}
 use Rattle.stores.specs.Slots.{filled, sourceSlot, sphereSlot}
-use Rattle.triangles.specs.Triangles.{faceTaken, sphereTaken, sphereBuilt}
+use Rattle.triangles.specs.Triangles.{faceTaken, sphereTaken, sphereBuilt, crossTaken}
 use Rattle.triangles.specs.Taken.{usedFor}
 use Rattle.dodecahedron.specs.Projection.{forwardCore, inverseCore}
 use Rattle.dodecahedron.specs.Calls.{forwardGiven, inverseGiven, placeGiven, unplaceGiven}
@@ -79,8 +79,9 @@ used-answers o polar h =
     let i = triangleIndex ieee (polar .gamma) in
     let r = shouldReflect ieee polar in
     let t = all-built o i r h (index-below-10 ieee (polar .gamma)) in
-    let taken = builds o (sphereSlot o i r) (sourceSlot i r) ∙ t .1 in
-    (record { origin = o; index = i; reflected = r; triangle = t .0 }, rw taken)
+    let k = sphereSlot o i r in
+    let taken = builds o k (sourceSlot i r) ∙ t .1 in
+    (record { origin = o; index = i; reflected = r; triangle = t .0; bxc = crossTaken ieee (fresh .spheres) k (t .0) }, rw taken)
 
 -- ---- what forward and inverse work out
 

@@ -4,6 +4,9 @@
 // the list is malformed.
 use libc::STDIN_FILENO;
 use libc::STDOUT_FILENO;
+use set::sizes::FACE_STORE;
+use set::sizes::FRAME;
+use set::sizes::SPHERE_STORE;
 use strike_records::session::Stage;
 use strike_records::session::begin;
 use strike_records::session::feed;
@@ -148,9 +151,9 @@ fn answer(
 fn run_session(input: &[u8], more: usize, lines: &mut [u8]) -> usize
     ensures { λ r. ⌜ r ≤ length (now (lines .exit)) ⌝ }
 {
-    let mut frame = [0.0; 186];
-    let mut face = [0.0; 210];
-    let mut sphere = [0.0; 2400];
+    let mut frame = [0.0; FRAME];
+    let mut face = [0.0; FACE_STORE];
+    let mut sphere = [0.0; SPHERE_STORE];
     let begun = begin(&mut frame, &mut face, &mut sphere, lines);
     let stage = begun.stage;
     let at = Standing {

@@ -1,7 +1,7 @@
 -- Document 01, "Calls and their numbers": "Show takes the two stores, a store kind and a slot number. It hands back the
 -- coordinates as a part of whichever store was named, or an empty part at the face store's start if the slot is empty or the
 -- call refused; a companion call on the same arguments answers filled, empty or the refusal." Definitions only.
-use Prim.Native.Nat.{ℕ, _+_, _-_, _*_}
+use Prim.Native.Nat.{ℕ, _+_, _*_}
 use mathlib.Core.Path.{_≡_}
 use mathlib.Core.Bool.{Bool, true, false, not}
 use mathlib.Core.List.{List, []}
@@ -11,7 +11,8 @@ use lib.Ieee.{Float}
 use denote.Ref.{RefT, now, ptr}
 use Rattle.answer.specs.Given.{Given, answered, refused, refuseIf}
 use Rattle.answer.specs.Answer.{numberOf}
-use Rattle.set.specs.Sizes.{FACE-SLOTS, FACE-WIDTH, FACE-STORE, SPHERE-SLOTS, SPHERE-WIDTH, SPHERE-STORE}
+use Rattle.set.specs.Sizes.{FACE-SLOTS, FACE-COORDINATES, FACE-WIDTH, FACE-STORE}
+use Rattle.set.specs.Sizes.{SPHERE-SLOTS, SPHERE-COORDINATES, SPHERE-WIDTH, SPHERE-STORE}
 use Rattle.stores.specs.Slots.{run, filled}
 use Rattle.show.specs.declared.StoreKind.{StoreKind}
 use Rattle.show.specs.declared.StoreKind.the-variants as kind
@@ -36,6 +37,10 @@ slotsIn kind = named kind FACE-SLOTS SPHERE-SLOTS
 abbrev pub widthIn : StoreKind → ℕ
 widthIn kind = named kind FACE-WIDTH SPHERE-WIDTH
 
+-- Paper 6: "Show still gives the nine coordinates"
+abbrev pub coordinatesIn : StoreKind → ℕ
+coordinatesIn kind = named kind FACE-COORDINATES SPHERE-COORDINATES
+
 -- ---- the companion, on the two stores: 2, 3, and 10 for "slot 30 or more (face), 240 or more (sphere)"
 unfoldable pub slotGiven : List Float → List Float → StoreKind → ℕ → Given Bool
 slotGiven faces spheres kind k =
@@ -55,7 +60,7 @@ whereFilled (answered true) part = part
 unfoldable pub partShown : List Float → List Float → StoreKind → ℕ → List Float
 partShown faces spheres kind k =
     whereFilled (slotGiven faces spheres kind k)
-    (run (named kind faces spheres) (k * widthIn kind + 1) (widthIn kind - 1))
+    (run (named kind faces spheres) (k * widthIn kind + 1) (coordinatesIn kind))
 
 -- where it lies: a part from element i of a store on starts 8 bytes further for each element before it
 abbrev pub placeIn : ℕ × ℕ → ℕ → ℕ × ℕ

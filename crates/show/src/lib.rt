@@ -1,13 +1,15 @@
 // Show and its companion: what a slot of a set's stores holds. Both only read.
 use answer::Refusal;
+use set::sizes::FACE_COORDINATES;
 use set::sizes::FACE_SLOTS;
 use set::sizes::FACE_STORE;
 use set::sizes::FACE_WIDTH;
+use set::sizes::SPHERE_COORDINATES;
 use set::sizes::SPHERE_SLOTS;
 use set::sizes::SPHERE_STORE;
 use set::sizes::SPHERE_WIDTH;
 ghost use mathlib.Core.Path.{_≡_};
-ghost use Prim.Native.Nat.{_+_, _-_, _<_, _≤_};
+ghost use Prim.Native.Nat.{_+_, _<_, _≤_};
 ghost use lib.ListN.{length};
 ghost use Rattle.answer.specs.Given.{answered};
 ghost use Rattle.stores.specs.Slots.{filled};
@@ -68,12 +70,12 @@ pub fn slot_state(
     }
 }
 
-// The slot that starts at a place, without its mark.
-fn coordinates<'a>(store: &'a [f64], at: usize, width: usize) -> &'a [f64]
-    requires { ⌜ (at + width ≤ length (now store)) × (0 < width) ⌝ }
-    ensures { λ r. ⌜ PartOf (store .entry) (at + 1) (width - 1) r ⌝ }
+// The coordinates of the slot that starts at a place: so many, behind its mark.
+fn coordinates<'a>(store: &'a [f64], at: usize, count: usize) -> &'a [f64]
+    requires { ⌜ at + 1 + count ≤ length (now store) ⌝ }
+    ensures { λ r. ⌜ PartOf (store .entry) (at + 1) count r ⌝ }
 {
-    &store[at + 1..at + width]
+    &store[at + 1..at + 1 + count]
 }
 
 // The coordinates of a filled slot, as a part of the store named; else an empty part at the face
@@ -88,8 +90,8 @@ pub fn show<'a>(
 {
     match slot_state(face_store, sphere_store, kind, slot) {
         SlotState::Filled => match kind {
-            StoreKind::Face => coordinates(face_store, slot * FACE_WIDTH, FACE_WIDTH),
-            StoreKind::Sphere => coordinates(sphere_store, slot * SPHERE_WIDTH, SPHERE_WIDTH),
+            StoreKind::Face => coordinates(face_store, slot * FACE_WIDTH, FACE_COORDINATES),
+            StoreKind::Sphere => coordinates(sphere_store, slot * SPHERE_WIDTH, SPHERE_COORDINATES),
         },
         SlotState::Empty => &face_store[0..0],
         SlotState::Refused(_) => &face_store[0..0],

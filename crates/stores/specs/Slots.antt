@@ -1,5 +1,5 @@
--- Document 01, "Calls and their numbers" and "Triangles and calls": a store is slots of one width; a slot is a mark, 1.0 where it
--- is filled, and a run of coordinates, "vertices a, b, c in turn". Definitions only.
+-- Document 01, "Calls and their numbers" and "Triangles and calls", and Paper 6: a store is slots of one width; a slot is a mark,
+-- 1.0 where it is filled, and a run of coordinates, "vertices a, b, c in turn", in a sphere slot "then b × c". Definitions only.
 use Prim.Native.Nat.{ℕ, _+_, _*_}
 use mathlib.Core.Bool.{Bool, true, false, cond}
 use mathlib.Core.List.{List, [], _∷_, _++_}
@@ -8,6 +8,7 @@ use lib.Ieee.{Float, nan, eq}
 use Rattle.arithmetic.specs.Numbers.{1·0}
 use Rattle.coordinates.specs.CoordinateTransforms.{face}
 use Rattle.coordinates.specs.Vector.{x, y, z, cartesian}
+use Rattle.coordinates.specs.declared.coords.Cartesian.{Cartesian}
 use Rattle.coordinates.specs.declared.coords.FaceTriangle.{FaceTriangle}
 use Rattle.coordinates.specs.declared.coords.SphericalTriangle.{SphericalTriangle}
 
@@ -57,8 +58,12 @@ faceIn r =
       c = face (getD r 4 nan) (getD r 5 nan);
     }
 
-abbrev pub sphereRun : SphericalTriangle → List Float
-sphereRun t = x (t .a) ∷ y (t .a) ∷ z (t .a) ∷ x (t .b) ∷ y (t .b) ∷ z (t .b) ∷ x (t .c) ∷ y (t .c) ∷ z (t .c) ∷ []
+abbrev pub triangleRun : SphericalTriangle → List Float
+triangleRun t = x (t .a) ∷ y (t .a) ∷ z (t .a) ∷ x (t .b) ∷ y (t .b) ∷ z (t .b) ∷ x (t .c) ∷ y (t .c) ∷ z (t .c) ∷ []
+
+-- Paper 6: "nine coordinates, then b × c"
+abbrev pub sphereRun : SphericalTriangle → Cartesian → List Float
+sphereRun t bxc = triangleRun t ++ (x bxc ∷ y bxc ∷ z bxc ∷ [])
 
 abbrev pub sphereIn : List Float → SphericalTriangle
 sphereIn r =
@@ -67,3 +72,7 @@ sphereIn r =
       b = cartesian (getD r 3 nan) (getD r 4 nan) (getD r 5 nan);
       c = cartesian (getD r 6 nan) (getD r 7 nan) (getD r 8 nan);
     }
+
+-- three numbers as a vector
+abbrev pub vectorIn : List Float → Cartesian
+vectorIn r = cartesian (getD r 0 nan) (getD r 1 nan) (getD r 2 nan)

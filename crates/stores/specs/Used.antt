@@ -16,9 +16,10 @@ use Rattle.stores.specs.declared.used.Used.{Used}
 -- ---- what an answered call leaves: "An unreflected call uses face slot i and its sphere slot; a reflected one uses 10+i, 20+i
 -- and its sphere slot." "Empty used slots are written on success."
 
--- a sphere slot, with the triangle that the call took
+-- a sphere slot, with the triangle that the call took, and b × c of it
 unfoldable pub sphereWritten : List Float → Used → List Float
-sphereWritten store u = slotWritten SPHERE-WIDTH store (sphereSlot (u .origin) (u .index) (u .reflected)) (sphereRun (u .triangle))
+sphereWritten store u =
+    slotWritten SPHERE-WIDTH store (sphereSlot (u .origin) (u .index) (u .reflected)) (sphereRun (u .triangle) (u .bxc))
 
 module _ (A : Arith) where
   -- a face slot, with the triangle defined for it

@@ -1,5 +1,6 @@
 // Marked slots in a store: which slot is whose, whether one is filled, and writing one. A slot is a
-// mark and six coordinates for a face triangle, nine for a sphere triangle.
+// mark and six coordinates for a face triangle; for a sphere triangle nine, and the three of b × c.
+use coordinates::coords::Cartesian;
 use coordinates::coords::FaceTriangle;
 use coordinates::coords::SphericalTriangle;
 use set::sizes::FACE_WIDTH;
@@ -66,9 +67,10 @@ fn write_face(run: &mut [f64], t: FaceTriangle)
     run[5] = t.c.0.y;
 }
 
-fn write_sphere(run: &mut [f64], t: SphericalTriangle)
-    requires { ⌜ length (now run) ≡ 9 ⌝ }
-    ensures { λ _. ⌜ now (run .exit) ≡ sphereRun t ⌝ }
+// The same, and b × c behind them.
+fn write_sphere(run: &mut [f64], t: SphericalTriangle, bxc: Cartesian)
+    requires { ⌜ length (now run) ≡ 12 ⌝ }
+    ensures { λ _. ⌜ now (run .exit) ≡ sphereRun t bxc ⌝ }
 {
     run[0] = t.a.0.x;
     run[1] = t.a.0.y;
@@ -79,6 +81,9 @@ fn write_sphere(run: &mut [f64], t: SphericalTriangle)
     run[6] = t.c.0.x;
     run[7] = t.c.0.y;
     run[8] = t.c.0.z;
+    run[9] = bxc.0.x;
+    run[10] = bxc.0.y;
+    run[11] = bxc.0.z;
 }
 
 // A slot whole: its mark, and its run lent on to the writer.
@@ -90,12 +95,12 @@ fn store_face(store: &mut [f64], at: usize, t: FaceTriangle)
     write_face(&mut store[at + 1..at + FACE_WIDTH], t);
 }
 
-fn store_sphere(store: &mut [f64], at: usize, t: SphericalTriangle)
+fn store_sphere(store: &mut [f64], at: usize, t: SphericalTriangle, bxc: Cartesian)
     requires { ⌜ at + SPHERE-WIDTH ≤ length (now store) ⌝ }
-    ensures { λ _. ⌜ now (store .exit) ≡ put (now (store .entry)) at (1·0 ∷ sphereRun t) ⌝ }
+    ensures { λ _. ⌜ now (store .exit) ≡ put (now (store .entry)) at (1·0 ∷ sphereRun t bxc) ⌝ }
 {
     store[at] = 1.0;
-    write_sphere(&mut store[at + 1..at + SPHERE_WIDTH], t);
+    write_sphere(&mut store[at + 1..at + SPHERE_WIDTH], t, bxc);
 }
 
 // An empty slot gets the triangle defined for it, and a filled one stays.
@@ -110,14 +115,19 @@ pub(crate) fn write_face_slot(store: &mut [f64], slot: usize)
     store_face(store, at, tiling::face_triangles::face_triangle(slot));
 }
 
-// An empty slot gets the triangle t, and a filled one stays.
-pub(crate) fn write_sphere_slot(store: &mut [f64], slot: usize, t: SphericalTriangle)
+// An empty slot gets the triangle t with b × c, and a filled one stays.
+pub(crate) fn write_sphere_slot(
+    store: &mut [f64],
+    slot: usize,
+    t: SphericalTriangle,
+    bxc: Cartesian,
+)
     requires { ⌜ (slot < SPHERE-SLOTS) × (length (now store) ≡ SPHERE-STORE) ⌝ }
-    ensures { λ _. ⌜ now (store .exit) ≡ slotWritten SPHERE-WIDTH (now (store .entry)) slot (sphereRun t) ⌝ }
+    ensures { λ _. ⌜ now (store .exit) ≡ slotWritten SPHERE-WIDTH (now (store .entry)) slot (sphereRun t bxc) ⌝ }
 {
     let at = slot * SPHERE_WIDTH;
     if is_filled(store, at) {
         return;
     }
-    store_sphere(store, at, t);
+    store_sphere(store, at, t, bxc);
 }

@@ -5,6 +5,7 @@ use crate::slots::sphere_slot;
 use crate::slots::write_face_slot;
 use crate::slots::write_sphere_slot;
 use answer::Check;
+use coordinates::coords::Cartesian;
 use coordinates::coords::SphericalTriangle;
 use set::checks::check_call;
 ghost use mathlib.Core.Path.{_≡_};
@@ -16,12 +17,14 @@ ghost use Rattle.set.specs.Outcome.{lent, Becomes};
 ghost use Rattle.stores.specs.Used.{hasSlots, facesWritten, writtenIfThere};
 
 // The slots that a call uses are told by origin, index and reflection; the sphere triangle is the
-// one that it took.
+// one that it took, and bxc is B × C that belongs to it: from the same slot, or formed where that is
+// empty.
 pub struct Used {
     pub origin: u8,
     pub index: u8,
     pub reflected: bool,
     pub triangle: SphericalTriangle,
+    pub bxc: Cartesian,
 }
 
 // Whether the set passes 1 to 4, and the slots used are among its.
@@ -54,6 +57,6 @@ pub fn write_used(frame: &[f64], face_store: &mut [f64], sphere_store: &mut [f64
     if has_slots(frame, face_store, sphere_store, used) {
         write_faces(face_store, used.index, used.reflected);
         let slot = sphere_slot(used.origin, used.index, used.reflected);
-        write_sphere_slot(sphere_store, slot, used.triangle);
+        write_sphere_slot(sphere_store, slot, used.triangle, used.bxc);
     }
 }

@@ -3,6 +3,9 @@
 // read that fails counts as the input's end, and a write that fails ends the program.
 use libc::STDIN_FILENO;
 use libc::STDOUT_FILENO;
+use set::sizes::FACE_STORE;
+use set::sizes::FRAME;
+use set::sizes::SPHERE_STORE;
 use strike_records::session::Stage;
 use strike_records::session::begin;
 use strike_records::session::feed_buffer;
@@ -198,9 +201,9 @@ fn room() -> [u8; 262160]
 }
 
 fn main() {
-    let mut frame = [0.0; 186];
-    let mut face_store = [0.0; 210];
-    let mut sphere_store = [0.0; 2400];
+    let mut frame = [0.0; FRAME];
+    let mut face_store = [0.0; FACE_STORE];
+    let mut sphere_store = [0.0; SPHERE_STORE];
     let mut buffer = io::large_buffer();
     let mut out = room();
     run(

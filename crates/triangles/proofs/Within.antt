@@ -16,7 +16,7 @@ use Rattle.set.specs.Set.{Set}
 use Rattle.set.specs.Checks.{checkCall}
 use Rattle.stores.specs.Slots.{sourceSlot, sphereSlot}
 use Rattle.stores.specs.declared.used.Used.{Used}
-use Rattle.triangles.specs.Triangles.{sphereTaken}
+use Rattle.triangles.specs.Triangles.{sphereTaken, crossTaken}
 use Rattle.triangles.specs.Taken.{faceFor, usedFor, takenFor}
 
 pub answered-same : {A : Type 0} {a b : A} → answered a ≡ answered b → a ≡ b
@@ -47,14 +47,15 @@ module _ (A : Arith) (table : List Float) (s : Set) (o : ℕ) (polar : Polar) wh
     triangle = sphereTaken A s (originAt table o) (sphereSlot o i r) (sourceSlot i r)
 
     abbrev then : SphericalTriangle → Given Used
-    then t = answered (record { origin = o; index = i; reflected = r; triangle = t })
+    then t = answered (record { origin = o; index = i; reflected = r; triangle = t; bxc = crossTaken A (s .spheres) (sphereSlot o i r) t })
 
     used-is : used ≡ bind triangle then
     unfolding usedFor
     used-is =
         λ k.
-        bind (sphereTaken A s (originAt table o) (sphereSlot o (sym ei k) (sym er k)) (sourceSlot (sym ei k) (sym er k))) λ t.
-        answered (record { origin = o; index = sym ei k; reflected = sym er k; triangle = t })
+        let slot = sphereSlot o (sym ei k) (sym er k) in
+        bind (sphereTaken A s (originAt table o) slot (sourceSlot (sym ei k) (sym er k))) λ t.
+        answered (record { origin = o; index = sym ei k; reflected = sym er k; triangle = t; bxc = crossTaken A (s .spheres) slot t })
 
     pub used-refused : (n : ℕ) → triangle ≡ refused n → used ≡ refused n
     used-refused n e = used-is ∙ ap (λ (g : Given SphericalTriangle). bind g then) e

@@ -13,7 +13,7 @@ use Rattle.set.specs.Set.{Set}
 use Rattle.set.specs.Checks.{checkCall}
 use Rattle.stores.specs.Slots.{faceSlot, sourceSlot, sphereSlot}
 use Rattle.stores.specs.declared.used.Used.{Used}
-use Rattle.triangles.specs.Triangles.{faceTaken, sphereTaken}
+use Rattle.triangles.specs.Triangles.{faceTaken, sphereTaken, crossTaken}
 use Rattle.triangles.specs.declared.taken.Taken.{Taken}
 use Rattle.triangles.specs.declared.taken.TakenAnswer.{TakenAnswer}
 use Rattle.triangles.specs.declared.taken.TakenAnswer.the-variants as taken-answer
@@ -33,13 +33,14 @@ unfoldable pub faceFor : Arith → Set → Used → FaceTriangle
 faceFor A s u = faceTaken A (s .faces) (faceSlot (u .index) (u .reflected))
 
 module _ (A : Arith) (table : List Float) (s : Set) where
-  -- the sphere triangle taken for a polar point, with the slots used; 8 where a vertex has no row
+  -- the sphere triangle taken for a polar point, and b × c, with the slots used; 8 where a vertex has no row
   unfoldable pub usedFor : ℕ → Polar → Given Used
   usedFor o polar =
       let i = triangleIndex A (polar .gamma) in
       let r = shouldReflect A polar in
-      bind (sphereTaken A s (originAt table o) (sphereSlot o i r) (sourceSlot i r)) λ t.
-      answered (record { origin = o; index = i; reflected = r; triangle = t })
+      let k = sphereSlot o i r in
+      bind (sphereTaken A s (originAt table o) k (sourceSlot i r)) λ t.
+      answered (record { origin = o; index = i; reflected = r; triangle = t; bxc = crossTaken A (s .spheres) k t })
 
   -- both triangles of a polar point, on any buffers and for any id: 1 to 4, and then 8
   unfoldable pub takenFor : ℕ → Polar → Given Taken

@@ -1,5 +1,6 @@
 // The triangles that a call takes for a point.
 use crate::triangles::TriangleAnswer;
+use crate::triangles::take_cross;
 use crate::triangles::take_face;
 use crate::triangles::take_sphere;
 use answer::Check;
@@ -40,7 +41,7 @@ pub enum TakenAnswer {
     Refused(Refusal),
 }
 
-// The sphere triangle of a point about an origin's axis, and the slots that it is taken by.
+// The sphere triangle of a point about an origin's axis with b × c, and the slots that it is taken by.
 fn take_used(
     frame: &[f64],
     face_store: &[f64],
@@ -64,12 +65,16 @@ fn take_used(
         source,
     ) {
         TriangleAnswer::Refused(n) => UsedAnswer::Refused(n),
-        TriangleAnswer::Answered(triangle) => UsedAnswer::Answered(Used {
-            origin,
-            index,
-            reflected,
-            triangle,
-        }),
+        TriangleAnswer::Answered(triangle) => {
+            let bxc = take_cross(sphere_store, slot, triangle);
+            UsedAnswer::Answered(Used {
+                origin,
+                index,
+                reflected,
+                triangle,
+                bxc,
+            })
+        }
     }
 }
 

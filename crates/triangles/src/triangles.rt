@@ -1,5 +1,5 @@
-// The triangles of slots: a filled slot as it stands, and for an empty one the triangle that is built
-// for it.
+// The triangles of slots, and b × c: a filled slot as it stands, and for an empty one the triangle that
+// is built for it.
 use answer::Refusal;
 use coordinates::base::Radians;
 use coordinates::coordinate_transforms::to_cartesian;
@@ -11,10 +11,12 @@ use coordinates::coords::SphericalTriangle;
 use coordinates::polar::Polar;
 use coordinates::vec2::Vec2;
 use coordinates::vec3::Vec3;
+use coordinates::vector::cross;
 use crs::frame::VertexAnswer;
 use origin::quaternion::transform_quat;
 use origin::utils::Origin;
 use set::sizes::FACE_WIDTH;
+use set::sizes::SPHERE_CROSS;
 use set::sizes::SPHERE_WIDTH;
 use stores::slots::is_filled;
 ghost use mathlib.Core.Path.{_≡_};
@@ -26,9 +28,9 @@ ghost use Rattle.elementary.specs.Sine.{beyond};
 ghost use Rattle.coordinates.specs.Constants.{8·0};
 ghost use Rattle.crs.specs.Frame.{givenVertex};
 ghost use Rattle.set.specs.Outcome.{lent};
-ghost use Rattle.set.specs.Sizes.{FACE-SLOTS, FACE-STORE, SPHERE-SLOTS, SPHERE-STORE};
-ghost use Rattle.stores.specs.Slots.{faceIn, sphereIn};
-ghost use Rattle.triangles.specs.Triangles.{faceTaken, cornerVertex, sphereBuilt, sphereTaken, givenTriangle};
+ghost use Rattle.set.specs.Sizes.{FACE-COORDINATES, FACE-SLOTS, FACE-STORE, SPHERE-COORDINATES, SPHERE-SLOTS, SPHERE-STORE};
+ghost use Rattle.stores.specs.Slots.{faceIn, sphereIn, vectorIn};
+ghost use Rattle.triangles.specs.Triangles.{faceTaken, cornerVertex, sphereBuilt, sphereTaken, crossTaken, givenTriangle};
 
 // A sphere triangle, or 8.
 pub enum TriangleAnswer {
@@ -38,7 +40,7 @@ pub enum TriangleAnswer {
 
 // The triangle of a run of coordinates, as it stands.
 fn read_face(run: &[f64]) -> FaceTriangle
-    requires { ⌜ length (now run) ≡ 6 ⌝ }
+    requires { ⌜ length (now run) ≡ FACE-COORDINATES ⌝ }
     ensures { λ r. ⌜ r ≡ faceIn (now (run .entry)) ⌝ }
 {
     FaceTriangle {
@@ -58,7 +60,7 @@ fn read_face(run: &[f64]) -> FaceTriangle
 }
 
 fn read_sphere(run: &[f64]) -> SphericalTriangle
-    requires { ⌜ length (now run) ≡ 9 ⌝ }
+    requires { ⌜ length (now run) ≡ SPHERE-COORDINATES ⌝ }
     ensures { λ r. ⌜ r ≡ sphereIn (now (run .entry)) ⌝ }
 {
     SphericalTriangle {
@@ -78,6 +80,18 @@ fn read_sphere(run: &[f64]) -> SphericalTriangle
             z: run[8],
         }),
     }
+}
+
+// A vector of three numbers, as it stands.
+fn read_vector(run: &[f64]) -> Cartesian
+    requires { ⌜ length (now run) ≡ 3 ⌝ }
+    ensures { λ r. ⌜ r ≡ vectorIn (now (run .entry)) ⌝ }
+{
+    Cartesian(Vec3 {
+        x: run[0],
+        y: run[1],
+        z: run[2],
+    })
 }
 
 // The face triangle of a slot, as it stands or as it is defined.
@@ -144,8 +158,22 @@ pub(crate) fn take_sphere(
 {
     let at = slot * SPHERE_WIDTH;
     if is_filled(sphere_store, at) {
-        TriangleAnswer::Answered(read_sphere(&sphere_store[at + 1..at + SPHERE_WIDTH]))
+        TriangleAnswer::Answered(read_sphere(&sphere_store[at + 1..at + SPHERE_CROSS]))
     } else {
         build_sphere(frame, origin, take_face(face_store, source))
+    }
+}
+
+// B × C of the triangle t that was taken from a slot: as it stands there, and formed where the slot is
+// empty.
+pub(crate) fn take_cross(store: &[f64], slot: usize, t: SphericalTriangle) -> Cartesian
+    requires { ⌜ (slot < SPHERE-SLOTS) × (length (now store) ≡ SPHERE-STORE) ⌝ }
+    ensures { λ r. ⌜ r ≡ crossTaken ieee (now (store .entry)) slot t ⌝ }
+{
+    let at = slot * SPHERE_WIDTH;
+    if is_filled(store, at) {
+        read_vector(&store[at + SPHERE_CROSS..at + SPHERE_WIDTH])
+    } else {
+        cross(t.b, t.c)
     }
 }

@@ -41,7 +41,7 @@ mul-coordinates c = omega (arith, face-fits c .below)
 coordinates-requires : tie.Need-coordinates-requires
 coordinates-requires c κs =
     let fits = face-fits c in
-    (omega (arith, fits .faces-fit, fits .spheres-fit, fits .below), omega arith)
+    omega (arith, fits .faces-fit, fits .spheres-fit, fits .below)
 
 mul-coordinates-2 : tie.Need-mul-coordinates-2
 mul-coordinates-2 c = omega (arith, sphere-fits c .below)
@@ -49,7 +49,7 @@ mul-coordinates-2 c = omega (arith, sphere-fits c .below)
 coordinates-requires-2 : tie.Need-coordinates-requires-2
 coordinates-requires-2 c κs =
     let fits = sphere-fits c in
-    (omega (arith, fits .faces-fit, fits .spheres-fit, fits .below), omega arith)
+    omega (arith, fits .faces-fit, fits .spheres-fit, fits .below)
 
 returns : tie.Need-returns
 unfolding partShown

@@ -31,8 +31,7 @@ taken c =
 
 frame-constants-requires : tie.Need-frame-constants-requires
 frame-constants-requires c κs =
-    let used = c .before .before .before in
-    let found = used .before .before .before in
+    let found = c .before .before in
     let take = found .before .before in
     call-passed _ _ (start take .pre .0) .0 .frame
 
@@ -44,12 +43,10 @@ returns c =
 returns-2 : tie.Need-returns-2
 returns-2 c =
     let constants = c .before in
-    let product = constants .before in
-    let used = product .before .before .before in
-    let found = used .before .before .before in
+    let found = constants .before .before .before in
     let take = found .before .before in
     let cartesian = take .before .before .before in
-    rw (c .forward .ensures, product .cross .ensures, constants .frame-constants .ensures, cartesian .to-cartesian .ensures)
+    rw (c .forward .ensures, constants .frame-constants .ensures, cartesian .to-cartesian .ensures)
     (forward-done ieee ORIGINS _ _ _ _ (start take .pre .0) (sym (taken take) ∙ ap givenTaken (found .taken .given .1)))
 
 pub forward-core-spec : {M : Type 1} → statement M
@@ -62,7 +59,6 @@ forward-core-spec =
     (λ c κs. search needs)
     (λ c. search needs)
     (λ c. search needs)
-    (λ c κs. search needs)
     frame-constants-requires
     (λ c κs. search needs)
     returns

@@ -7,6 +7,7 @@ use borrow.Author.Needs.{needs}
 use lib.ListN.{length}
 use lib.Ieee.{ofBits}
 use Rattle.arithmetic.specs.Numbers.{1·0}
+use Rattle.set.specs.Sizes.{SPHERE-WIDTH}
 use Rattle.stores.specs.Slots.{sphereRun}
 use Rattle.stores.proofs.Runs.{put-marked, length-put}
 use Rattle.stores.proofs.slots.store_sphere.Statement.{statement}
@@ -17,13 +18,13 @@ unfolding ofBits
 returns c =
     let written = c .before .before in
     let a = written .before .before .before .args in
-    put-marked (a .store .now) (a .at) (a .at + 10) 1·0 _ (sphereRun (a .t)) (omega arith) (written .write-sphere .ensures) (omega arith)
+    put-marked (a .store .now) (a .at) (a .at + SPHERE-WIDTH) 1·0 _ (sphereRun (a .t) (a .bxc)) (omega arith) (written .write-sphere .ensures) (omega arith)
 
 same-length : tie.Need-same-length
 same-length c =
     let written = c .before .before in
     let a = written .before .before .before .args in
-    ap length (returns c) ∙ length-put (a .store .now) (a .at) (1·0 ∷ sphereRun (a .t)) (omega arith)
+    ap length (returns c) ∙ length-put (a .store .now) (a .at) (1·0 ∷ sphereRun (a .t) (a .bxc)) (omega arith)
 
 pub store-sphere-spec : {M : Type 1} → statement M
 store-sphere-spec =

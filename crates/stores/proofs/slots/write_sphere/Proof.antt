@@ -7,13 +7,16 @@ use Rattle.stores.proofs.slots.write_sphere.Statement.{statement}
 use Rattle.stores.proofs.slots.write_sphere.Tie as tie
 
 returns : tie.Need-returns
-returns c = sets-whole (sphereRun (c .args .t)) (c .args .run .now) (c .pre)
+returns c = sets-whole (sphereRun (c .args .t) (c .args .bxc)) (c .args .run .now) (c .pre)
 
 pub write-sphere-spec : {M : Type 1} → statement M
 write-sphere-spec =
     tie.close
     (tie.spec
     (λ c. omega arith)
+    (λ c. simp length-set (omega arith))
+    (λ c. simp length-set (omega arith))
+    (λ c. simp length-set (omega arith))
     (λ c. simp length-set (omega arith))
     (λ c. simp length-set (omega arith))
     (λ c. simp length-set (omega arith))
