@@ -58,6 +58,9 @@ pub fn check(degrees: &[[f64; 2]], radians: &[[f64; 2]]) {
         );
         let point = |place: Place| [place.face.x, place.face.y];
         same("place", &point(place), &point(theirs));
+        let [theta, phi] = to;
+        let face = ours.forward(theta, phi, place.origin);
+        same("forward", &face, &rust.forward(theta, phi, place.origin));
         same("unplace", &ours.unplace(place), &rust.unplace(place));
         let x = longitude * TIMES;
         same(

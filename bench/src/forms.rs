@@ -9,6 +9,7 @@ pub trait Form {
     fn nearest(&mut self, theta: f64, phi: f64) -> u8;
     fn from_lon_lat(&mut self, longitude: f64, latitude: f64) -> [f64; 2];
     fn to_lon_lat(&mut self, theta: f64, phi: f64) -> [f64; 2];
+    fn forward(&mut self, theta: f64, phi: f64, origin: u8) -> [f64; 2];
     fn place(&mut self, longitude: f64, latitude: f64) -> Place;
     fn unplace(&mut self, place: Place) -> [f64; 2];
     fn sine(&mut self, x: f64) -> f64;
@@ -61,6 +62,12 @@ impl Form for Ours {
     fn to_lon_lat(&mut self, theta: f64, phi: f64) -> [f64; 2] {
         let to = calls::to_lon_lat(Spherical { theta, phi }).expect("to_lon_lat");
         [to.longitude, to.latitude]
+    }
+
+    fn forward(&mut self, theta: f64, phi: f64, origin: u8) -> [f64; 2] {
+        let position = Spherical { theta, phi };
+        let to = self.set.forward(position, origin).expect("forward");
+        [to.x, to.y]
     }
 
     fn place(&mut self, longitude: f64, latitude: f64) -> Place {
@@ -127,6 +134,11 @@ macro_rules! rust_form {
             fn to_lon_lat(&mut self, theta: f64, phi: f64) -> [f64; 2] {
                 let to = $a5::core::coordinate_transforms::to_lon_lat(Self::position(theta, phi));
                 [to.longitude(), to.latitude()]
+            }
+
+            fn forward(&mut self, theta: f64, phi: f64, origin: u8) -> [f64; 2] {
+                let to = self.0.forward(Self::position(theta, phi), origin);
+                to.expect("forward").into()
             }
 
             fn place(&mut self, longitude: f64, latitude: f64) -> Place {

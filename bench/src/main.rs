@@ -17,11 +17,12 @@ const POINTS: usize = 5000;
 const A_RUN: usize = 250;
 const RUNS: usize = 401;
 
-const CALLS: [&str; 11] = [
+const CALLS: [&str; 12] = [
     "open",
     "nearest",
     "from_lon_lat",
     "to_lon_lat",
+    "forward",
     "place",
     "unplace",
     "sine",
@@ -84,6 +85,8 @@ fn time<P: Copy, A>(points: &[P], mut call: impl FnMut(P) -> A) -> f64 {
 struct Points {
     degrees: Vec<[f64; 2]>,
     radians: Vec<[f64; 2]>,
+    // with the nearest origin
+    forwards: Vec<([f64; 2], u8)>,
     places: Vec<Place>,
 }
 
@@ -91,12 +94,14 @@ struct Points {
 fn run(form: &mut impl Form, points: &Points, at: usize) -> [f64; CALLS.len()] {
     let degrees = &points.degrees[at..at + A_RUN];
     let radians = &points.radians[at..at + A_RUN];
+    let forwards = &points.forwards[at..at + A_RUN];
     let places = &points.places[at..at + A_RUN];
     [
         time(&[()], |()| form.open()),
         time(radians, |p| form.nearest(p[0], p[1])),
         time(degrees, |p| form.from_lon_lat(p[0], p[1])),
         time(radians, |p| form.to_lon_lat(p[0], p[1])),
+        time(forwards, |(p, id)| form.forward(p[0], p[1], id)),
         time(degrees, |p| form.place(p[0], p[1])),
         time(places, |p| form.unplace(p)),
         time(radians, |p| form.sine(p[0])),
@@ -141,12 +146,14 @@ fn interleaved(points: &Points) -> [Vec<[f64; CALLS.len()]>; 3] {
 
 fn in_all_terms(degrees: Vec<[f64; 2]>) -> Points {
     let mut library = Ours::new();
-    let radians = degrees
+    let radians: Vec<[f64; 2]> = degrees
         .iter()
         .map(|p| library.from_lon_lat(p[0], p[1]))
         .collect();
-    let places = degrees.iter().map(|p| library.place(p[0], p[1])).collect();
+    let places: Vec<Place> = degrees.iter().map(|p| library.place(p[0], p[1])).collect();
+    let ids = places.iter().map(|place| place.origin);
     Points {
+        forwards: radians.iter().copied().zip(ids).collect(),
         degrees,
         radians,
         places,
