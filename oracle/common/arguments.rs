@@ -1,7 +1,7 @@
 // Ways of making arguments, which the oracles on the given Rust share.
 
 use super::generator::Generator;
-use super::refusals::RIGHT;
+use super::sizes::{OLD_SPHERE_STORE, RIGHT};
 use super::values::{both_signs, moved};
 use std::f64::consts::{FRAC_PI_2, PI};
 
@@ -33,9 +33,11 @@ pub fn spherical_ends() -> Vec<[f64; 2]> {
     pairs(&ends, &ends)
 }
 
-// Each buffer empty, one short, right and one long, with each.
+// Each buffer empty, one short, right and one long, and the sphere store as long as it was before Paper 6, with each.
 pub fn all_lengths() -> Vec<[usize; 3]> {
-    let [frames, faces, spheres] = RIGHT.map(|size| [0, size - 1, size, size + 1]);
+    let [frames, faces, [empty, short, right, long]] =
+        RIGHT.map(|size| [0, size - 1, size, size + 1]);
+    let spheres = [empty, OLD_SPHERE_STORE, short, right, long];
     let mut list = Vec::new();
     for frame in frames {
         for face in faces {

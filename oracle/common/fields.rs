@@ -1,7 +1,7 @@
 // The Rust's values from numbers and back, in the order of its fields. A whole number stands as it is, not as a float.
 
 use a5::coordinate_systems::{
-    Cartesian, Face, FaceTriangle, LonLat, Polar, Radians, Spherical, SphericalTriangle,
+    Cartesian, Face, FaceTriangle, LonLat, Polar, Radians, Spherical,
 };
 
 // The float with the bits of a whole number, as a list has it, and back.
@@ -49,17 +49,8 @@ pub fn of_polar(p: Polar) -> [f64; 2] {
     [p.rho(), p.gamma().get()]
 }
 
-pub fn spherical_triangle(x: &[f64]) -> SphericalTriangle {
-    let [a, b, c] = [&x[0..3], &x[3..6], &x[6..9]].map(cartesian);
-    SphericalTriangle::new(a, b, c)
-}
-
 pub fn of_triangle(t: FaceTriangle) -> Vec<f64> {
     [t.a, t.b, t.c].map(<[f64; 2]>::from).concat()
-}
-
-pub fn of_spherical_triangle(t: SphericalTriangle) -> Vec<f64> {
-    [t.a, t.b, t.c].map(<[f64; 3]>::from).concat()
 }
 
 pub fn of_face(f: Face) -> [f64; 2] {

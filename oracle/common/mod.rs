@@ -8,4 +8,6 @@ pub mod generator;
 pub mod list;
 pub mod places;
 pub mod refusals;
+pub mod sizes;
+pub mod sphere_slot;
 pub mod values;

@@ -1,19 +1,15 @@
 // The refusals that look at the lent buffers' lengths, at a call's numbers and at its answer. The Rust has none of them: these
 // are document 01's, under its words. And the numbers of what the Rust can fail by.
 
-// "The frame (186 numbers, 62 rows of three), the face store (210, 30 slots of 7) and the sphere store (2,400, 240 slots of
-// 10)."
-pub const FRAME: usize = 186;
-pub const FACE_STORE: usize = 210;
-pub const SPHERE_STORE: usize = 2400;
-pub const RIGHT: [usize; 3] = [FRAME, FACE_STORE, SPHERE_STORE];
+use super::sizes::RIGHT;
 
 // "Ranges, ends included: longitude ±360, latitude ±90, theta and phi ±8, face x and y ±4."
 pub const LON_LAT_LIMITS: [f64; 2] = [360.0, 90.0];
 pub const SPHERICAL_LIMITS: [f64; 2] = [8.0, 8.0];
 pub const FACE_LIMITS: [f64; 2] = [4.0, 4.0];
 
-// "1: frame isn't 186 long. 2: face store isn't 210 long. 3: sphere store isn't 2,400 long." "Tried in table order."
+// "1: frame isn't 186 long. 2: face store isn't 210 long." Paper 6: the sphere store "is 3,120 numbers, and refusal 3 is for every
+// other length." "Tried in table order."
 pub fn lengths(given: [usize; 3]) -> Result<(), u8> {
     match (0..3).find(|i| given[*i] != RIGHT[*i]) {
         Some(i) => Err(i as u8 + 1),

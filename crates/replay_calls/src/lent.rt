@@ -1,5 +1,8 @@
 // Which call a record is of, and how much of each buffer it is lent.
 use replay::record::word;
+use set::sizes::FACE_STORE;
+use set::sizes::FRAME;
+use set::sizes::SPHERE_STORE;
 
 // The last number of a call that is lent a whole set; then open, and any call on buffers of other lengths.
 pub const UNPLACE: u8 = 4;
@@ -20,9 +23,9 @@ pub fn of_record(number: u8, words: &[u8; 96]) -> Lent {
     if number <= UNPLACE {
         return Lent {
             call: number,
-            frame: 186,
-            face: 210,
-            sphere: 2400,
+            frame: FRAME as u64,
+            face: FACE_STORE as u64,
+            sphere: SPHERE_STORE as u64,
         };
     }
     if number == OPEN {

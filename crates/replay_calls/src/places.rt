@@ -1,10 +1,10 @@
 // Places are counted over the three buffers of a set: the frame, then the face store, then the sphere store, each with one number
 // more than a set has, so that one too many can be lent, and what lies behind is looked at.
-pub const FRAME: usize = 187;
+pub const FRAME: usize = set::sizes::FRAME + 1;
 
-pub const FACE_STORE: usize = 211;
+pub const FACE_STORE: usize = set::sizes::FACE_STORE + 1;
 
-pub const SPHERE_STORE: usize = 2401;
+pub const SPHERE_STORE: usize = set::sizes::SPHERE_STORE + 1;
 
 pub const FACE_AT: usize = FRAME;
 

@@ -12,6 +12,10 @@ use crate::places::SPHERE_AT;
 use crate::places::SPHERE_STORE;
 use replay::record::argument;
 use replay::record::word;
+use set::sizes::FACE_SLOTS;
+use set::sizes::FACE_WIDTH;
+use set::sizes::SPHERE_SLOTS;
+use set::sizes::SPHERE_WIDTH;
 
 // The place that a record names; what lies beyond the notes has no room for a number, and neither has their end.
 fn place(words: &[u8; 96]) -> usize {
@@ -72,22 +76,22 @@ pub fn opened(notes: &mut [f64]) -> bool {
     frame && face && sphere
 }
 
-// A face slot that should then hold the triangle defined for it; 30 is none.
+// A face slot that should then hold the triangle defined for it; the number after the last is none.
 fn keep_face(notes: &mut [f64], slot: u64) -> bool {
-    if slot >= 30 {
-        return slot == 30;
+    if slot >= FACE_SLOTS as u64 {
+        return slot == FACE_SLOTS as u64;
     }
-    let at = FACE_AT + 7 * (slot as usize);
-    copy(notes, DEFINED_AT + at, at, 7)
+    let at = FACE_AT + FACE_WIDTH * (slot as usize);
+    copy(notes, DEFINED_AT + at, at, FACE_WIDTH)
 }
 
-// The same of a sphere slot; 240 is none.
+// The same of a sphere slot, with b × c of its triangle.
 fn keep_sphere(notes: &mut [f64], slot: u64) -> bool {
-    if slot >= 240 {
-        return slot == 240;
+    if slot >= SPHERE_SLOTS as u64 {
+        return slot == SPHERE_SLOTS as u64;
     }
-    let at = SPHERE_AT + 10 * (slot as usize);
-    copy(notes, DEFINED_AT + at, at, 10)
+    let at = SPHERE_AT + SPHERE_WIDTH * (slot as usize);
+    copy(notes, DEFINED_AT + at, at, SPHERE_WIDTH)
 }
 
 // The slots that the next call should write as they are defined: two face slots and a sphere slot.

@@ -7,7 +7,18 @@ use replay::outcome::three;
 use replay::record::word;
 use set::open::OpenAnswer;
 use set::open::open;
-ghost use Prim.Native.Nat.{_≤_};
+use set::sizes::FACE_STORE;
+use set::sizes::FRAME;
+use set::sizes::SPHERE_STORE;
+ghost use Prim.Native.Nat.{_+_, _≤_};
+ghost use Rattle.set.specs.Sizes.{FRAME, FACE-STORE, SPHERE-STORE};
+
+// Room for a buffer and one number more, so that one too many can be lent, and what lies behind is looked at.
+const FRAME_ROOM: usize = FRAME + 1;
+
+const FACE_ROOM: usize = FACE_STORE + 1;
+
+const SPHERE_ROOM: usize = SPHERE_STORE + 1;
 
 // What every buffer holds before open: a number that open never writes.
 pub const FOREIGN: f64 = 7.5;
@@ -31,8 +42,13 @@ struct Effect {
 }
 
 // What differs from foreign buffers.
-fn effect_on(status: u8, frame: &[f64; 187], face: &[f64; 211], sphere: &[f64; 2401]) -> Effect {
-    let before = [FOREIGN; 2401];
+fn effect_on(
+    status: u8,
+    frame: &[f64; FRAME_ROOM],
+    face: &[f64; FACE_ROOM],
+    sphere: &[f64; SPHERE_ROOM],
+) -> Effect {
+    let before = [FOREIGN; SPHERE_ROOM];
     Effect {
         status: status,
         frame: unlike(frame, &before, 0),
@@ -43,11 +59,11 @@ fn effect_on(status: u8, frame: &[f64; 187], face: &[f64; 211], sphere: &[f64; 2
 
 // Open on the first numbers of three foreign buffers, a, b and c many. What lies behind is looked at too.
 fn opening(a: usize, b: usize, c: usize) -> Effect
-    requires { ⌜ (a ≤ 187) × (b ≤ 211) × (c ≤ 2401) ⌝ }
+    requires { ⌜ (a ≤ FRAME + 1) × (b ≤ FACE-STORE + 1) × (c ≤ SPHERE-STORE + 1) ⌝ }
 {
-    let mut frame = [FOREIGN; 187];
-    let mut face = [FOREIGN; 211];
-    let mut sphere = [FOREIGN; 2401];
+    let mut frame = [FOREIGN; FRAME_ROOM];
+    let mut face = [FOREIGN; FACE_ROOM];
+    let mut sphere = [FOREIGN; SPHERE_ROOM];
     let status = match open(&mut frame[..a], &mut face[..b], &mut sphere[..c]) {
         OpenAnswer::Opened => 0,
         OpenAnswer::Refused(r) => answer::number(r),
@@ -60,7 +76,7 @@ fn opened(words: &[u8; 96]) -> Effect {
     let a = word(words, 0);
     let b = word(words, 1);
     let c = word(words, 2);
-    if a > 187 || b > 211 || c > 2401 {
+    if a > FRAME_ROOM as u64 || b > FACE_ROOM as u64 || c > SPHERE_ROOM as u64 {
         return Effect {
             status: NO_SUCH_PLACE,
             frame: 0,

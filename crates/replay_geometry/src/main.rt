@@ -13,14 +13,17 @@ use replay::record::Next;
 use replay::report;
 use replay::tally;
 use set::open::open;
+use set::sizes::FACE_STORE;
+use set::sizes::FRAME;
+use set::sizes::SPHERE_STORE;
 
 // The outcome of the function with this number, on an opened set.
 fn outcome(
     number: u8,
     words: &[u8; 96],
-    frame: &[f64; 186],
-    face: &[f64; 210],
-    sphere: &[f64; 2400],
+    frame: &[f64; FRAME],
+    face: &[f64; FACE_STORE],
+    sphere: &[f64; SPHERE_STORE],
 ) -> Outcome {
     match number {
         1 => tables::get_origin(words),
@@ -43,9 +46,9 @@ fn outcome(
 fn replay_next(
     names: &[u8],
     takes: &[u8],
-    frame: &[f64; 186],
-    face: &[f64; 210],
-    sphere: &[f64; 2400],
+    frame: &[f64; FRAME],
+    face: &[f64; FACE_STORE],
+    sphere: &[f64; SPHERE_STORE],
     compared: &mut [u64; 32],
     differ: &mut [u64; 32],
 ) -> bool {
@@ -60,7 +63,13 @@ fn replay_next(
 }
 
 // Nothing says that the input ends, so the loop counts its records down from more than any list has.
-fn run(names: &[u8], takes: &[u8], frame: &[f64; 186], face: &[f64; 210], sphere: &[f64; 2400]) {
+fn run(
+    names: &[u8],
+    takes: &[u8],
+    frame: &[f64; FRAME],
+    face: &[f64; FACE_STORE],
+    sphere: &[f64; SPHERE_STORE],
+) {
     let mut compared = [0u64; 32];
     let mut differ = [0u64; 32];
     let mut left: u32 = 0xffff_ffff;
@@ -85,9 +94,9 @@ fn run(names: &[u8], takes: &[u8], frame: &[f64; 186], face: &[f64; 210], sphere
 
 // The functions' names and how many arguments each takes, by their numbers, from 1.
 fn main() {
-    let mut frame = [FOREIGN; 186];
-    let mut face = [FOREIGN; 210];
-    let mut sphere = [FOREIGN; 2400];
+    let mut frame = [FOREIGN; FRAME];
+    let mut face = [FOREIGN; FACE_STORE];
+    let mut sphere = [FOREIGN; SPHERE_STORE];
     open(&mut frame, &mut face, &mut sphere);
     run(
         b" get_origin face_triangle frame face_store sphere_store open open_changes nearest haversine transform_quat get_face_triangle_index normalize_gamma should_reflect",

@@ -6,16 +6,16 @@ ghost use Prim.Native.Nat.{_<_};
 
 // Where a call is counted: the names stand in this order. A refused one is counted five places on.
 fn place_of(call: Call) -> usize
-    ensures { λ r. ⌜ r < 16 ⌝ }
+    ensures { λ r. ⌜ r < 17 ⌝ }
 {
     match call {
-        Call::Forward(_, _) => 4,
-        Call::Inverse(_, _) => 5,
-        Call::Place(_) => 6,
-        Call::Unplace(_, _) => 7,
-        Call::Ask(_, _) => 8,
-        Call::Open => 14,
-        Call::Show(_, _) => 15,
+        Call::Forward(_, _) => 5,
+        Call::Inverse(_, _) => 6,
+        Call::Place(_) => 7,
+        Call::Unplace(_, _) => 8,
+        Call::Ask(_, _) => 9,
+        Call::Open => 15,
+        Call::Show(_, _) => 16,
     }
 }
 

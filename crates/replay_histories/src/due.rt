@@ -9,15 +9,24 @@ use answer::bits;
 use replay::outcome::Outcome;
 use replay::outcome::refused;
 use set::open::open;
+use set::sizes::FACE_COORDINATES;
+use set::sizes::FACE_SLOTS;
+use set::sizes::FACE_STORE;
+use set::sizes::FACE_WIDTH;
+use set::sizes::FRAME;
+use set::sizes::SPHERE_COORDINATES;
+use set::sizes::SPHERE_SLOTS;
+use set::sizes::SPHERE_STORE;
+use set::sizes::SPHERE_WIDTH;
 use show::StoreKind;
-ghost use Prim.Native.Nat.{_+_, _<_, _≤_};
+ghost use Prim.Native.Nat.{_+_, _<_};
 ghost use lib.ListN.{length};
 
 // What a call comes to on a newly opened set, and what it writes there into the stores lent.
 fn on_new_set(call: Call, face: &mut [f64], sphere: &mut [f64]) -> Outcome {
-    let mut new_frame = [0.0; 186];
-    let mut new_face = [0.0; 210];
-    let mut new_sphere = [0.0; 2400];
+    let mut new_frame = [0.0; FRAME];
+    let mut new_face = [0.0; FACE_STORE];
+    let mut new_sphere = [0.0; SPHERE_STORE];
     open(&mut new_frame, &mut new_face, &mut new_sphere);
     let outcome = perform(&mut new_frame, &mut new_face, &mut new_sphere, call);
     gather(face, &new_face);
@@ -42,56 +51,71 @@ fn state_at(store: &[f64], at: usize) -> Outcome
     whole(1, 0, 0, 0)
 }
 
-fn state(face: &[f64; 210], sphere: &[f64; 2400], kind: StoreKind, slot: usize) -> Outcome {
+fn state(
+    face: &[f64; FACE_STORE],
+    sphere: &[f64; SPHERE_STORE],
+    kind: StoreKind,
+    slot: usize,
+) -> Outcome {
     match kind {
         StoreKind::Face => {
-            if slot > 29 {
+            if slot >= FACE_SLOTS {
                 return refused(10);
             }
-            state_at(face, slot * 7)
+            state_at(face, slot * FACE_WIDTH)
         }
         StoreKind::Sphere => {
-            if slot > 239 {
+            if slot >= SPHERE_SLOTS {
                 return refused(10);
             }
-            state_at(sphere, slot * 10)
+            state_at(sphere, slot * SPHERE_WIDTH)
         }
     }
 }
 
 // Show on the slot that starts at a place: how many coordinates, the first and the last.
-fn part_at(store: &[f64], at: usize, width: usize) -> Outcome
-    requires { ⌜ (at + width ≤ length (now store)) × (1 < width) ⌝ }
+fn part_at(store: &[f64], at: usize, coordinates: usize) -> Outcome
+    requires { ⌜ (at + coordinates < length (now store)) × (0 < coordinates) ⌝ }
 {
     if store[at] == 1.0 {
         return whole(
             3,
-            (width - 1) as u64,
+            coordinates as u64,
             bits(store[at + 1]),
-            bits(store[at + width - 1]),
+            bits(store[at + coordinates]),
         );
     }
     whole(1, 0, 0, 0)
 }
 
-fn part(face: &[f64; 210], sphere: &[f64; 2400], kind: StoreKind, slot: usize) -> Outcome {
+// Of a sphere slot nine coordinates, without the b × c behind them.
+fn part(
+    face: &[f64; FACE_STORE],
+    sphere: &[f64; SPHERE_STORE],
+    kind: StoreKind,
+    slot: usize,
+) -> Outcome {
     match kind {
         StoreKind::Face => {
-            if slot > 29 {
+            if slot >= FACE_SLOTS {
                 return whole(1, 0, 0, 0);
             }
-            part_at(face, slot * 7, 7)
+            part_at(face, slot * FACE_WIDTH, FACE_COORDINATES)
         }
         StoreKind::Sphere => {
-            if slot > 239 {
+            if slot >= SPHERE_SLOTS {
                 return whole(1, 0, 0, 0);
             }
-            part_at(sphere, slot * 10, 10)
+            part_at(sphere, slot * SPHERE_WIDTH, SPHERE_COORDINATES)
         }
     }
 }
 
-pub(crate) fn expected(call: Call, face: &mut [f64; 210], sphere: &mut [f64; 2400]) -> Outcome {
+pub(crate) fn expected(
+    call: Call,
+    face: &mut [f64; FACE_STORE],
+    sphere: &mut [f64; SPHERE_STORE],
+) -> Outcome {
     match call {
         Call::Open => opened(call, face, sphere),
         Call::Show(kind, slot) => part(face, sphere, kind, slot),

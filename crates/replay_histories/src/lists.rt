@@ -7,16 +7,19 @@ use crate::draw::draw;
 use crate::due::expected;
 use replay::numbers::unlike;
 use set::open::open;
+use set::sizes::FACE_STORE;
+use set::sizes::FRAME;
+use set::sizes::SPHERE_STORE;
 
 // One call on the set, compared: what it comes to, and every number of the set after it.
 fn turn(
     call: Call,
-    frame: &mut [f64; 186],
-    face: &mut [f64; 210],
-    sphere: &mut [f64; 2400],
-    due_frame: &[f64; 186],
-    due_face: &mut [f64; 210],
-    due_sphere: &mut [f64; 2400],
+    frame: &mut [f64; FRAME],
+    face: &mut [f64; FACE_STORE],
+    sphere: &mut [f64; SPHERE_STORE],
+    due_frame: &[f64; FRAME],
+    due_face: &mut [f64; FACE_STORE],
+    due_sphere: &mut [f64; SPHERE_STORE],
     compared: &mut [u64; 32],
     differ: &mut [u64; 32],
 ) {
@@ -26,7 +29,7 @@ fn turn(
     let as_due = unlike(frame, due_frame, 0) == 0
         && unlike(face, due_face, 0) == 0
         && unlike(sphere, due_sphere, 0) == 0;
-    count(3, as_due, compared, differ);
+    count(4, as_due, compared, differ);
 }
 
 // A list of so many calls, open once in so many of them, or never for 0.
@@ -34,12 +37,12 @@ fn list(
     seed: &mut u64,
     calls: u32,
     opens: u64,
-    frame: &mut [f64; 186],
-    face: &mut [f64; 210],
-    sphere: &mut [f64; 2400],
-    due_frame: &[f64; 186],
-    due_face: &mut [f64; 210],
-    due_sphere: &mut [f64; 2400],
+    frame: &mut [f64; FRAME],
+    face: &mut [f64; FACE_STORE],
+    sphere: &mut [f64; SPHERE_STORE],
+    due_frame: &[f64; FRAME],
+    due_face: &mut [f64; FACE_STORE],
+    due_sphere: &mut [f64; SPHERE_STORE],
     compared: &mut [u64; 32],
     differ: &mut [u64; 32],
 ) {
@@ -63,16 +66,16 @@ fn list(
 
 // A list with many opens, and then one with none, which fills every slot.
 pub(crate) fn run(
-    frame: &mut [f64; 186],
-    face: &mut [f64; 210],
-    sphere: &mut [f64; 2400],
+    frame: &mut [f64; FRAME],
+    face: &mut [f64; FACE_STORE],
+    sphere: &mut [f64; SPHERE_STORE],
     compared: &mut [u64; 32],
     differ: &mut [u64; 32],
 ) {
     let mut seed: u64 = 0x0123_4567_89ab_cdef;
-    let mut f = [0.0; 186];
-    let mut g = [0.0; 210];
-    let mut h = [0.0; 2400];
+    let mut f = [0.0; FRAME];
+    let mut g = [0.0; FACE_STORE];
+    let mut h = [0.0; SPHERE_STORE];
     open(&mut f, &mut g, &mut h);
     list(
         &mut seed,

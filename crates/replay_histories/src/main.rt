@@ -1,8 +1,8 @@
 // Runs long lists of calls on one set, drawn from a fixed seed, refused ones among them. Each forward, inverse, place
 // and unplace is made on a newly opened set too, and must come to the same there, bit for bit. Two stores gather what
 // those calls have written there since the last open: after each call the set's stores must equal them in every number,
-// and its frame the first open's. Last, the oracle's list (oracle/README.md) is read from standard input, and each of
-// its vertices compared with what show hands back.
+// and its frame the first open's. Last, the oracle's list (oracle/README.md) is read from standard input, each of its
+// vertices compared with what show hands back, and each b × c with what stands behind them in the sphere store.
 mod call;
 mod counts;
 mod draw;
@@ -16,21 +16,24 @@ use replay::record::Next;
 use replay::report;
 use replay::tally;
 use set::open::open;
+use set::sizes::FACE_STORE;
+use set::sizes::FRAME;
+use set::sizes::SPHERE_STORE;
 
-// Reads one record and compares its vertex. Answers whether there was one.
+// Reads one record and compares its vertex or b × c. Answers whether there was one.
 fn replay_next<'a>(
     names: &[u8],
-    face: &'a [f64; 210],
-    sphere: &'a [f64; 2400],
+    face: &'a [f64; FACE_STORE],
+    sphere: &'a [f64; SPHERE_STORE],
     compared: &mut [u64; 32],
     differ: &mut [u64; 32],
 ) -> bool {
     let mut words = [0u8; 96];
-    let next = record::read(b"022", &mut words);
+    let next = record::read(b"0221", &mut words);
     let Next::Record(head) = next else {
         return false;
     };
-    let given = vertices::vertex(head.number, face, sphere, &words);
+    let given = vertices::of_record(head.number, face, sphere, &words);
     tally::compare(names, head, &words, given, compared, differ);
     true
 }
@@ -38,8 +41,8 @@ fn replay_next<'a>(
 // Nothing says that the input ends, so the loop counts its records down from more than any list has.
 fn replay_all<'a>(
     names: &[u8],
-    face: &'a [f64; 210],
-    sphere: &'a [f64; 2400],
+    face: &'a [f64; FACE_STORE],
+    sphere: &'a [f64; SPHERE_STORE],
     compared: &mut [u64; 32],
     differ: &mut [u64; 32],
 ) {
@@ -57,9 +60,9 @@ const FOREIGN: f64 = 7.5;
 
 // The names stand in the order of the counts.
 fn run(names: &[u8]) {
-    let mut frame = [FOREIGN; 186];
-    let mut face = [FOREIGN; 210];
-    let mut sphere = [FOREIGN; 2400];
+    let mut frame = [FOREIGN; FRAME];
+    let mut face = [FOREIGN; FACE_STORE];
+    let mut sphere = [FOREIGN; SPHERE_STORE];
     open(&mut frame, &mut face, &mut sphere);
     let mut compared = [0u64; 32];
     let mut differ = [0u64; 32];
@@ -71,11 +74,11 @@ fn run(names: &[u8]) {
         &mut differ,
     );
     replay_all(names, &face, &sphere, &mut compared, &mut differ);
-    report::summaries(names, 15, &compared, &differ);
+    report::summaries(names, 16, &compared, &differ);
 }
 
 fn main() {
     run(
-        b" face_vertex sphere_vertex set forward inverse place unplace companion forward_refused inverse_refused place_refused unplace_refused companion_refused open show",
+        b" face_vertex sphere_vertex cross_product set forward inverse place unplace companion forward_refused inverse_refused place_refused unplace_refused companion_refused open show",
     );
 }

@@ -1,7 +1,8 @@
 // The angle from the area share at a point. It serves to find arguments: what a call gives there is the Rust's own.
 
-use crate::common::fields::{cartesian, face, spherical_triangle, triangle};
-use crate::foreign::{coordinates, Slot, Target};
+use crate::common::fields::{cartesian, face, triangle};
+use crate::common::sphere_slot::spherical_triangle;
+use crate::foreign::{contents, Slot, Target};
 use crate::set::{empty_projection, Set};
 use a5::coordinate_systems::{Barycentric, FaceTriangle, SphericalTriangle};
 use a5::core::coordinate_transforms::{face_to_barycentric, to_polar};
@@ -25,7 +26,7 @@ impl Angle<'_> {
             Slot::Face(k) => set.face_slot(k).is_some(),
             Slot::Sphere(k) => set.sphere_slot(k).is_some(),
         };
-        let of = |slot| coordinates(if has(slot) { set } else { defined }, slot);
+        let of = |slot| contents(if has(slot) { set } else { defined }, slot);
         let frame = CRS::oracle_with(set.frame.chunks(3).map(cartesian).collect());
         Angle {
             target,

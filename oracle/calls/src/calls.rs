@@ -2,12 +2,12 @@
 // in it. The refusals and what stands in the stores afterwards are document 01's, under its words.
 
 use crate::common::fields::{
-    lon_lat, of_lon_lat, of_spherical, of_spherical_triangle, of_triangle, of_whole, spherical,
-    whole,
+    lon_lat, of_lon_lat, of_spherical, of_triangle, of_whole, spherical, whole,
 };
 use crate::common::refusals::{
     check, finite, lengths, of_error, origin, FACE_LIMITS, LON_LAT_LIMITS, SPHERICAL_LIMITS,
 };
+use crate::common::sphere_slot::of_spherical_triangle;
 use crate::set::{empty_projection, Set};
 use a5::coordinate_systems::{Face, Spherical};
 use a5::core::coordinate_transforms::{from_lon_lat, to_lon_lat};
@@ -108,8 +108,8 @@ fn has(rust: &DodecahedronProjection) -> (Vec<usize>, usize) {
     (faces, spheres[0])
 }
 
-// "Empty used slots are written on success." The triangles are those that the Rust has by then; a slot 20+i that it did not
-// need, since its sphere slot was filled, it is asked for.
+// "Empty used slots are written on success." The triangles are those that the Rust has by then, a sphere triangle with its b × c;
+// a slot 20+i that it did not need, since its sphere slot was filled, it is asked for.
 fn keep(set: &mut Set, rust: &mut DodecahedronProjection, question: &Question) {
     // without a filled slot the projection had no triangles before it was asked
     let (faces, sphere) = if set.is_empty() {

@@ -1,10 +1,12 @@
 // Sets that foreign hands have written: marks, coordinates and rows.
 
+use crate::calls::{Forward, Place};
 use crate::common::arguments::SMALLEST;
-use crate::common::fields::whole;
+use crate::common::fields::{bits, whole};
 use crate::common::generator::Generator;
 use crate::common::places::rows;
-use crate::common::refusals::RIGHT;
+use crate::common::sizes::{FACE_COORDINATES, RIGHT, SPHERE_COORDINATES};
+use crate::common::sphere_slot::with_cross_product;
 use crate::common::values::{moved, near};
 use crate::inputs::{forward, inverse, lon_lat_of, place, point_in, position_of, unplace, Asked};
 use crate::script::Script;
@@ -73,11 +75,13 @@ impl Target {
     pub fn rows(&self, defined: &Set) -> Vec<usize> {
         let triangle = defined.sphere_slot(self.sphere()).expect("all are filled");
         let row = |v: &[f64]| rows().iter().position(|r| r == v).expect("a row");
-        triangle.chunks(3).map(row).collect()
+        let vertices = triangle[..SPHERE_COORDINATES].chunks(3);
+        vertices.map(row).collect()
     }
 }
 
-pub fn coordinates(set: &Set, slot: Slot) -> Vec<f64> {
+// What follows a slot's mark: six coordinates, or nine and b × c.
+pub fn contents(set: &Set, slot: Slot) -> Vec<f64> {
     let found = match slot {
         Slot::Face(k) => set.face_slot(k),
         Slot::Sphere(k) => set.sphere_slot(k),
@@ -85,10 +89,10 @@ pub fn coordinates(set: &Set, slot: Slot) -> Vec<f64> {
     found.expect("all are filled").to_vec()
 }
 
-pub fn put(script: &mut Script, slot: Slot, mark: f64, coordinates: &[f64]) {
+pub fn put(script: &mut Script, slot: Slot, mark: f64, contents: &[f64]) {
     match slot {
-        Slot::Face(k) => script.put_face(k, mark, coordinates),
-        Slot::Sphere(k) => script.put_sphere(k, mark, coordinates),
+        Slot::Face(k) => script.put_face(k, mark, contents),
+        Slot::Sphere(k) => script.put_sphere(k, mark, contents),
     }
 }
 
@@ -119,7 +123,7 @@ fn marks(script: &mut Script, g: &mut Generator, defined: &Set) {
             let calls = target.calls();
             for (k, slot) in slots.iter().enumerate() {
                 script.open(RIGHT);
-                let other = anywhere(g, coordinates(defined, *slot).len());
+                let other = anywhere(g, contents(defined, *slot).len());
                 put(script, *slot, mark, &other);
                 let (call, x) = &calls[(turn + k) % calls.len()];
                 let answer = script.call(*call, x);
@@ -127,7 +131,7 @@ fn marks(script: &mut Script, g: &mut Generator, defined: &Set) {
             }
             script.open(RIGHT);
             for slot in slots {
-                let other = anywhere(g, coordinates(defined, slot).len());
+                let other = anywhere(g, contents(defined, slot).len());
                 put(script, slot, mark, &other);
             }
             for (call, x) in &calls[turn % 2..] {
@@ -137,15 +141,16 @@ fn marks(script: &mut Script, g: &mut Generator, defined: &Set) {
     }
 }
 
+fn broken(g: &mut Generator, x: &[f64], with: f64) -> Vec<f64> {
+    let mut copy = x.to_vec();
+    copy[g.whole(0, x.len() as i64) as usize] = with;
+    copy
+}
+
 // Other coordinates for a slot: a little moved, the corners in other orders, twice as large, anywhere, nothing, what is not a
 // finite number, too large.
-fn others(g: &mut Generator, x: &[f64]) -> Vec<Vec<f64>> {
+fn other_triangles(g: &mut Generator, x: &[f64]) -> Vec<Vec<f64>> {
     let n = x.len() / 3;
-    let broken = |at: usize, with: f64| {
-        let mut copy = x.to_vec();
-        copy[at] = with;
-        copy
-    };
     vec![
         moved_by(g, x, 1e-7),
         [&x[n..], &x[..n]].concat(),
@@ -153,10 +158,43 @@ fn others(g: &mut Generator, x: &[f64]) -> Vec<Vec<f64>> {
         x.iter().map(|x| 2.0 * x).collect(),
         anywhere(g, x.len()),
         vec![0.0; x.len()],
-        broken(g.whole(0, x.len() as i64) as usize, f64::NAN),
-        broken(g.whole(0, x.len() as i64) as usize, f64::INFINITY),
+        broken(g, x, f64::NAN),
+        broken(g, x, f64::INFINITY),
         x.iter().map(|x| 1e200 * x).collect(),
     ]
+}
+
+// Another b × c: a little moved, c × b, twice as large, anywhere, nothing, what is not a finite number, too large.
+fn other_cross_products(g: &mut Generator, x: &[f64]) -> Vec<Vec<f64>> {
+    let times = |by: f64| x.iter().map(|x| by * x).collect();
+    vec![
+        moved_by(g, x, 1e-7),
+        times(-1.0),
+        times(2.0),
+        anywhere(g, x.len()),
+        times(0.0),
+        broken(g, x, f64::NAN),
+        broken(g, x, f64::INFINITY),
+        times(1e200),
+    ]
+}
+
+// How many others there are of a slot's contents.
+const OTHERS: usize = 18;
+
+// Other coordinates: in a sphere slot each with the b × c that stood there, and with that of its own b and c.
+fn others(g: &mut Generator, x: &[f64]) -> Vec<Vec<f64>> {
+    if x.len() == FACE_COORDINATES {
+        return other_triangles(g, x);
+    }
+    let (corners, bxc) = x.split_at(SPHERE_COORDINATES);
+    let both = |t: Vec<f64>| [[&t, bxc].concat(), with_cross_product(&t)];
+    let list: Vec<Vec<f64>> = other_triangles(g, corners)
+        .into_iter()
+        .flat_map(both)
+        .collect();
+    assert_eq!(list.len(), OTHERS);
+    list
 }
 
 // "A filled slot is read as it stands, even if foreign hands wrote it", "a call that builds a sphere triangle on foreign contents
@@ -165,7 +203,7 @@ fn filled(script: &mut Script, g: &mut Generator, defined: &Set) {
     for reflected in [false, true] {
         let target = Target::any(g, reflected);
         for slot in target.slots() {
-            for other in others(g, &coordinates(defined, slot)) {
+            for other in others(g, &contents(defined, slot)) {
                 for (call, x) in target.calls() {
                     script.open(RIGHT);
                     put(script, slot, 1.0, &other);
@@ -174,11 +212,11 @@ fn filled(script: &mut Script, g: &mut Generator, defined: &Set) {
             }
         }
         let target = Target::any(g, reflected);
-        for turn in 0..9 {
+        for turn in 0..OTHERS {
             script.open(RIGHT);
             for slot in target.slots() {
-                let other = &others(g, &coordinates(defined, slot))[turn];
-                put(script, slot, 1.0, other);
+                let list = others(g, &contents(defined, slot));
+                put(script, slot, 1.0, &list[turn % list.len()]);
             }
             for (call, x) in target.calls() {
                 let _ = script.call(call, &x);
@@ -187,10 +225,35 @@ fn filled(script: &mut Script, g: &mut Generator, defined: &Set) {
     }
 }
 
+// Paper 6: "Forward reads b × c there, as it stands, instead of forming it; inverse goes on as before." Where a slot has another
+// b × c than that of its b and c, forward and place come to something else than on the slot as defined, inverse and unplace to
+// the same.
+fn cross_products(script: &mut Script, g: &mut Generator, defined: &Set) {
+    for reflected in [false, true] {
+        let target = Target::any(g, reflected);
+        let slot = Slot::Sphere(target.sphere());
+        let own = contents(defined, slot);
+        let (corners, bxc) = own.split_at(SPHERE_COORDINATES);
+        for (call, x) in target.calls() {
+            let mut with = |bxc: &[f64]| {
+                script.open(RIGHT);
+                put(script, slot, 1.0, &[corners, bxc].concat());
+                script.call(call, &x).map(|answer| bits(&answer))
+            };
+            let as_defined = with(bxc);
+            for other in other_cross_products(g, bxc) {
+                let is_read = call == Forward || call == Place;
+                let is_other = with(&other) != as_defined;
+                assert_eq!(is_other, is_read, "{call:?} of {x:?}, {other:?}");
+            }
+        }
+    }
+}
+
 // The triangle's corners: there "inverse returns a, b, c".
 fn corners(target: &Target, defined: &Set) -> Vec<[f64; 2]> {
     let slot = target.slots()[0];
-    let x = coordinates(defined, slot);
+    let x = contents(defined, slot);
     x.chunks(2).map(|p| [p[0], p[1]]).collect()
 }
 
@@ -213,7 +276,7 @@ fn no_frame(script: &mut Script, g: &mut Generator, defined: &Set) {
             script.fill(numbers);
             everything(script, &target, defined);
             let slot = Slot::Sphere(target.sphere());
-            put(script, slot, 1.0, &coordinates(defined, slot));
+            put(script, slot, 1.0, &contents(defined, slot));
             everything(script, &target, defined);
         }
     }
@@ -318,6 +381,7 @@ pub fn all(script: &mut Script, g: &mut Generator) {
     let defined = Set::defined();
     marks(script, g, &defined);
     filled(script, g, &defined);
+    cross_products(script, g, &defined);
     no_frame(script, g, &defined);
     all_empty(script, g);
     frames(script, g, &defined);

@@ -16,7 +16,7 @@ mod set;
 
 use common::generator::Generator;
 use common::list::{self, List};
-use common::refusals::RIGHT;
+use common::sizes::RIGHT;
 use script::Script;
 
 fn answers() -> List {

@@ -5,8 +5,8 @@ use crate::angle::{shifted, Angle};
 use crate::border::{self, Border, Exact};
 use crate::common::generator::Generator;
 use crate::common::places::rows;
-use crate::common::refusals::RIGHT;
-use crate::foreign::{coordinates, put, Slot, Target};
+use crate::common::sizes::RIGHT;
+use crate::foreign::{contents, put, Slot, Target};
 use crate::inputs::{inverse, unplace};
 use crate::script::Script;
 use crate::set::Set;
@@ -135,7 +135,7 @@ fn on_face(
     let border = border::find(g, &angle, exact, sign);
     if !target.reflected {
         both(script, border.beyond, target.id, Err(8));
-        put(script, sphere, 1.0, &coordinates(defined, sphere));
+        put(script, sphere, 1.0, &contents(defined, sphere));
     }
     at_border(script, border, target.id);
 }
@@ -146,7 +146,7 @@ fn on_face(
 fn faces(script: &mut Script, g: &mut Generator, defined: &Set) {
     for turn in 0..8 {
         let target = target(turn, 2 * (turn % 5) + turn / 2 % 2, turn % 2 == 1);
-        let x = coordinates(defined, target.slots()[0]);
+        let x = contents(defined, target.slots()[0]);
         let sign = [1.0, -1.0][turn / 4];
         for exact in [Exact::Within, Exact::Beyond] {
             let kind = (moved_corner(&x, &target), exact, sign);
@@ -165,9 +165,9 @@ fn spheres(script: &mut Script, g: &mut Generator, defined: &Set) {
     for index in 0..4 {
         let target = target(2 * index + 1, index, true);
         let slot = Slot::Sphere(target.sphere());
-        let x = coordinates(defined, slot);
+        let x = contents(defined, slot);
         script.open(RIGHT);
-        let exchanged = [&x[..3], &x[6..], &x[3..6]].concat();
+        let exchanged = [&x[..3], &x[6..9], &x[3..6], &x[9..]].concat();
         put(script, slot, 1.0, &exchanged);
         let angle = Angle::on(&script.set, defined, &target);
         let exact = [Exact::Within, Exact::Beyond][index % 2];
@@ -205,7 +205,7 @@ fn frames(script: &mut Script, g: &mut Generator, defined: &Set) {
                 script.put_row(*row, *numbers);
             }
             let slot = Slot::Sphere(target.sphere());
-            put(script, slot, 1.0, &coordinates(defined, slot));
+            put(script, slot, 1.0, &contents(defined, slot));
             let angle = Angle::on(&script.set, defined, &target);
             let exact = [Exact::Within, Exact::Beyond][index % 2];
             let sign = border::sign(g, &angle);
@@ -238,7 +238,7 @@ fn not_a_number(script: &mut Script, g: &mut Generator, defined: &Set) {
         for number in [f64::NAN, f64::INFINITY] {
             script.open(RIGHT);
             script.put_row(row, [number; 3]);
-            put(script, sphere, 1.0, &coordinates(defined, sphere));
+            put(script, sphere, 1.0, &contents(defined, sphere));
             both(script, border.beyond, target.id, Err(9));
         }
     }

@@ -3,7 +3,8 @@
 use crate::calls::{Call, Forward, Inverse, Place, Unplace};
 use crate::common::arguments::{all_lengths, pairs};
 use crate::common::fields::whole;
-use crate::common::refusals::{FACE_LIMITS, LON_LAT_LIMITS, RIGHT, SPHERICAL_LIMITS};
+use crate::common::refusals::{FACE_LIMITS, LON_LAT_LIMITS, SPHERICAL_LIMITS};
+use crate::common::sizes::{FACE_STORE, FRAME, OLD_SPHERE_STORE, RIGHT, SPHERE_STORE};
 use crate::common::values::moved;
 use crate::inputs::Asked;
 use crate::script::Script;
@@ -71,7 +72,12 @@ pub fn lengths(script: &mut Script) {
             turn += 1;
         }
     }
-    for lent in [[185, 210, 2400], [186, 0, 2400], [186, 210, 2401]] {
+    for lent in [
+        [FRAME - 1, FACE_STORE, SPHERE_STORE],
+        [FRAME, 0, SPHERE_STORE],
+        [FRAME, FACE_STORE, SPHERE_STORE + 1],
+        [FRAME, FACE_STORE, OLD_SPHERE_STORE],
+    ] {
         script.open(lent);
     }
 }

@@ -5,8 +5,11 @@
 use crate::calls::{self, Call};
 use crate::common::fields::{bits, whole};
 use crate::common::list::List;
-use crate::common::refusals::{lengths, FACE_STORE, FRAME, RIGHT, SPHERE_STORE};
-use crate::set::{new_projection, Set, FACE_SLOTS, FACE_WIDTH, SPHERE_SLOTS, SPHERE_WIDTH};
+use crate::common::refusals::lengths;
+use crate::common::sizes::{
+    FACE_SLOTS, FACE_STORE, FACE_WIDTH, FRAME, RIGHT, SPHERE_SLOTS, SPHERE_STORE, SPHERE_WIDTH,
+};
+use crate::set::{new_projection, Set};
 use a5::projections::dodecahedron::DodecahedronProjection;
 
 const FACE_AT: usize = FRAME + 1;
@@ -92,16 +95,16 @@ impl Script {
         self.kept = None;
     }
 
-    pub fn put_face(&mut self, slot: usize, mark: f64, coordinates: &[f64]) {
-        self.set.put_face(slot, mark, coordinates);
-        let numbers = [&[mark], coordinates].concat();
+    pub fn put_face(&mut self, slot: usize, mark: f64, numbers: &[f64]) {
+        self.set.put_face(slot, mark, numbers);
+        let numbers = [&[mark], numbers].concat();
         self.threes(PUT, FACE_AT + slot * FACE_WIDTH, &numbers);
         self.kept = None;
     }
 
-    pub fn put_sphere(&mut self, slot: usize, mark: f64, coordinates: &[f64]) {
-        self.set.put_sphere(slot, mark, coordinates);
-        let numbers = [&[mark], coordinates].concat();
+    pub fn put_sphere(&mut self, slot: usize, mark: f64, numbers: &[f64]) {
+        self.set.put_sphere(slot, mark, numbers);
+        let numbers = [&[mark], numbers].concat();
         self.threes(PUT, SPHERE_AT + slot * SPHERE_WIDTH, &numbers);
         self.kept = None;
     }

@@ -1,8 +1,8 @@
 // What document 01 says of single points, tried on the given Rust with the steps in it.
 
 use crate::calls::{call, Forward, Inverse, Place, Unplace};
-use crate::common::fields::whole;
-use crate::common::refusals::RIGHT;
+use crate::common::fields::{bits, whole};
+use crate::common::sizes::{FACE_SLOTS, RIGHT, SPHERE_COORDINATES, SPHERE_SLOTS};
 use crate::outside::KNOWN;
 use crate::set::{new_projection, Set};
 use a5::coordinate_systems::Face;
@@ -45,8 +45,8 @@ fn refusals() {
 fn slots() {
     let mut set = Set::opened();
     let filled = |set: &Set| -> (Vec<usize>, Vec<usize>) {
-        let faces = (0..30).filter(|k| set.face_slot(*k).is_some());
-        let spheres = (0..240).filter(|k| set.sphere_slot(*k).is_some());
+        let faces = (0..FACE_SLOTS).filter(|k| set.face_slot(*k).is_some());
+        let spheres = (0..SPHERE_SLOTS).filter(|k| set.sphere_slot(*k).is_some());
         (faces.collect(), spheres.collect())
     };
     call(Inverse, &mut set, RIGHT, &[0.3, 0.1, whole(4)]).expect("an answer");
@@ -58,6 +58,31 @@ fn slots() {
     set.face.fill(0.0);
     call(Inverse, &mut set, RIGHT, &reflected).expect("an answer");
     assert_eq!(filled(&set), (vec![10, 20], vec![160]));
+}
+
+// Paper 6: "A slot filled by an answered call must hold the cross product of its own b and c", whichever call it is.
+fn cross_product() {
+    let asked = [
+        (Forward, vec![1.0, 0.5, whole(3)]),
+        (Inverse, vec![0.3, 0.1, whole(4)]),
+        (Inverse, vec![0.8, 0.1, whole(4)]),
+        (Place, vec![16.3725, 48.2083]),
+        (Unplace, vec![0.3, 0.1, whole(11)]),
+    ];
+    for (asked, x) in asked {
+        let mut set = Set::opened();
+        call(asked, &mut set, RIGHT, &x).expect("an answer");
+        let mut filled = (0..SPHERE_SLOTS).filter_map(|k| set.sphere_slot(k));
+        let (corners, kept) = filled.next().expect("one").split_at(SPHERE_COORDINATES);
+        let (b, c) = (&corners[3..6], &corners[6..9]);
+        let formed = [
+            b[1] * c[2] - b[2] * c[1],
+            b[2] * c[0] - b[0] * c[2],
+            b[0] * c[1] - b[1] * c[0],
+        ];
+        assert_eq!(bits(kept), bits(&formed), "{asked:?}");
+        assert!(filled.next().is_none());
+    }
 }
 
 // Paper 7: "Inverse and unplace then refuse." Nothing is written; "tried after 8".
@@ -86,6 +111,7 @@ pub fn run() {
     session();
     refusals();
     slots();
+    cross_product();
     outside();
     cache_accident();
 }

@@ -1,17 +1,13 @@
 // A set of document 01 as three lists of numbers, and the Rust's projection with that frame and those triangles.
 
-use crate::common::fields::{
-    cartesian, of_spherical_triangle, of_triangle, spherical_triangle, triangle,
-};
+use crate::common::fields::{cartesian, of_triangle, triangle};
 use crate::common::places::rows;
-use crate::common::refusals::{FACE_STORE, FRAME, SPHERE_STORE};
+use crate::common::sizes::{
+    FACE_SLOTS, FACE_STORE, FACE_WIDTH, FRAME, SPHERE_SLOTS, SPHERE_STORE, SPHERE_WIDTH,
+};
+use crate::common::sphere_slot::{of_spherical_triangle, spherical_triangle};
 use a5::projections::crs::CRS;
 use a5::projections::dodecahedron::DodecahedronProjection;
-
-pub const FACE_SLOTS: usize = 30;
-pub const FACE_WIDTH: usize = 7;
-pub const SPHERE_SLOTS: usize = 240;
-pub const SPHERE_WIDTH: usize = 10;
 
 #[derive(Clone)]
 pub struct Set {
@@ -31,15 +27,15 @@ pub fn empty_projection() -> DodecahedronProjection {
     DodecahedronProjection::oracle_with(CRS::oracle_with(rows), faces, spheres)
 }
 
-// "A slot's first number is its mark: 1.0 is filled, anything else is empty. Six or nine coordinates follow."
+// "A slot's first number is its mark: 1.0 is filled, anything else is empty." What follows it: six coordinates, or nine and b × c.
 pub fn filled(store: &[f64], width: usize, slot: usize) -> Option<&[f64]> {
     let numbers = &store[slot * width..(slot + 1) * width];
     (numbers[0] == 1.0).then_some(&numbers[1..])
 }
 
-fn put(store: &mut [f64], width: usize, slot: usize, mark: f64, coordinates: &[f64]) {
+fn put(store: &mut [f64], width: usize, slot: usize, mark: f64, numbers: &[f64]) {
     store[slot * width] = mark;
-    store[slot * width + 1..(slot + 1) * width].copy_from_slice(coordinates);
+    store[slot * width + 1..(slot + 1) * width].copy_from_slice(numbers);
 }
 
 impl Set {
@@ -79,12 +75,12 @@ impl Set {
         self.frame[3 * row..3 * row + 3].copy_from_slice(&numbers);
     }
 
-    pub fn put_face(&mut self, slot: usize, mark: f64, coordinates: &[f64]) {
-        put(&mut self.face, FACE_WIDTH, slot, mark, coordinates);
+    pub fn put_face(&mut self, slot: usize, mark: f64, numbers: &[f64]) {
+        put(&mut self.face, FACE_WIDTH, slot, mark, numbers);
     }
 
-    pub fn put_sphere(&mut self, slot: usize, mark: f64, coordinates: &[f64]) {
-        put(&mut self.sphere, SPHERE_WIDTH, slot, mark, coordinates);
+    pub fn put_sphere(&mut self, slot: usize, mark: f64, numbers: &[f64]) {
+        put(&mut self.sphere, SPHERE_WIDTH, slot, mark, numbers);
     }
 
     pub fn face_slot(&self, slot: usize) -> Option<&[f64]> {

@@ -3,7 +3,7 @@
 use crate::boxes::Boxes;
 use crate::calls::{Call, Forward, Inverse, Place, Unplace};
 use crate::common::fields::{lon_lat, of_lon_lat, of_spherical, spherical};
-use crate::common::refusals::RIGHT;
+use crate::common::sizes::RIGHT;
 use crate::counts::{Asked, Counts, Where, FROM_LON_LAT, NEAREST, TO_LON_LAT};
 use crate::draw::Draw;
 use crate::foreign;

@@ -6,11 +6,11 @@ use crate::common::arguments::{within, SMALLEST};
 use crate::common::fields::{cartesian, of_spherical, whole};
 use crate::common::generator::Generator;
 use crate::common::places::{borders, meridians, rows};
-use crate::common::refusals::RIGHT;
+use crate::common::sizes::{FACE_SLOTS, OLD_SPHERE_STORE, RIGHT, SPHERE_SLOTS};
 use crate::common::values::{moved, specials};
 use crate::inputs::{self, nearest_two};
 use crate::library::BEHIND;
-use crate::set::{Set, FACE_SLOTS};
+use crate::set::Set;
 use a5::core::constants::{DISTANCE_TO_EDGE, PI_OVER_5, TWO_PI_OVER_5};
 use a5::core::coordinate_transforms::to_spherical;
 use std::f64::consts::PI;
@@ -278,13 +278,17 @@ impl Draw {
         x
     }
 
-    // Lengths: mostly right.
+    // Lengths: mostly right. A sphere store is also as long as it was before Paper 6.
     pub fn lengths(&mut self, rarely: i64) -> [usize; 3] {
         let mut lent = RIGHT;
         while self.one_in(rarely) {
             let k = self.pick(3);
             let size = RIGHT[k];
-            lent[k] = [0, 1, size - 1, size + 1, self.pick(size + BEHIND + 1)][self.pick(5)];
+            let any = self.pick(size + BEHIND + 1);
+            lent[k] = match self.pick(6) {
+                5 if k == 2 => OLD_SPHERE_STORE,
+                n => [0, 1, size - 1, size + 1, any, any][n],
+            };
         }
         lent
     }
@@ -296,10 +300,15 @@ impl Draw {
             n => n as u8 % 2,
         };
         let slot = match self.g.whole(0, 8) {
-            0 => [0, 29, 30, 239, 240, 241, usize::MAX, 1 << 63][self.pick(8)],
+            0 => {
+                let [face, sphere] = [FACE_SLOTS, SPHERE_SLOTS];
+                let (last, beyond) = ([face - 1, face, sphere - 1], [sphere, sphere + 1]);
+                let list = [&last[..], &beyond, &[0, usize::MAX, 1 << 63]].concat();
+                list[self.pick(8)]
+            }
             1 => self.g.bits() as usize,
-            2 | 3 => self.pick(32),
-            _ => self.pick(244),
+            2 | 3 => self.pick(FACE_SLOTS + 2),
+            _ => self.pick(SPHERE_SLOTS + 4),
         };
         (kind, slot)
     }

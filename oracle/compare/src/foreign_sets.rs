@@ -1,8 +1,10 @@
 // Sets that foreign hands have written, at random: each slot and each row for itself.
 
 use crate::common::generator::Generator;
+use crate::common::sizes::{FACE_WIDTH, SPHERE_COORDINATES, SPHERE_WIDTH};
+use crate::common::sphere_slot::with_cross_product;
 use crate::common::values::moved;
-use crate::set::{Set, FACE_SLOTS, FACE_WIDTH, SPHERE_SLOTS, SPHERE_WIDTH};
+use crate::set::Set;
 
 fn mark(g: &mut Generator) -> f64 {
     let list = [
@@ -31,7 +33,33 @@ fn anything(g: &mut Generator) -> f64 {
     }
 }
 
-// One slot: the mark, and its coordinates, which are those defined for it before.
+// b × c of a sphere slot alone: anything, c × b, twice as large, a number of it moved by units in the last place.
+fn cross_product(g: &mut Generator, bxc: &mut [f64]) {
+    match g.whole(0, 4) {
+        0 => bxc.iter_mut().for_each(|x| *x = anything(g)),
+        1 => bxc.iter_mut().for_each(|x| *x = -*x),
+        2 => bxc.iter_mut().for_each(|x| *x *= 2.0),
+        _ => {
+            let at = g.whole(0, 3) as usize;
+            bxc[at] = moved(bxc[at], g.whole(-3, 4));
+        }
+    }
+}
+
+// A sphere slot: as any slot, where b × c is left or that of the slot's own b and c; or b × c alone.
+fn sphere_slot(g: &mut Generator, numbers: &mut [f64]) {
+    let (triangle, bxc) = numbers.split_at_mut(1 + SPHERE_COORDINATES);
+    let turn = g.whole(0, 3);
+    if turn == 0 {
+        return cross_product(g, bxc);
+    }
+    slot(g, triangle);
+    if turn == 1 {
+        bxc.copy_from_slice(&with_cross_product(&triangle[1..])[SPHERE_COORDINATES..]);
+    }
+}
+
+// A slot's mark and coordinates, which are those defined for it before.
 fn slot(g: &mut Generator, numbers: &mut [f64]) {
     let part = (numbers.len() - 1) / 3;
     let at = 1 + g.whole(0, numbers.len() as i64 - 1) as usize;
@@ -73,19 +101,15 @@ fn row(g: &mut Generator, frame: &mut [f64]) {
 pub fn any(g: &mut Generator, defined: &Set) -> Set {
     let mut set = defined.clone();
     let (empty, foreign) = (g.between(0.0, 1.0), g.between(0.0, 1.0));
-    for k in 0..FACE_SLOTS + SPHERE_SLOTS {
-        let numbers = if k < FACE_SLOTS {
-            &mut set.face[k * FACE_WIDTH..(k + 1) * FACE_WIDTH]
-        } else {
-            let k = k - FACE_SLOTS;
-            &mut set.sphere[k * SPHERE_WIDTH..(k + 1) * SPHERE_WIDTH]
-        };
+    let mut each = |numbers: &mut [f64], other: fn(&mut Generator, &mut [f64])| {
         if g.unit() < empty {
             numbers.fill(0.0);
         } else if g.unit() < foreign {
-            slot(g, numbers);
+            other(g, numbers);
         }
-    }
+    };
+    set.face.chunks_mut(FACE_WIDTH).for_each(|numbers| each(numbers, slot));
+    set.sphere.chunks_mut(SPHERE_WIDTH).for_each(|numbers| each(numbers, sphere_slot));
     // rows 0, 32 and 12 go into every answer: mostly they are left
     for _ in 0..g.whole(0, 2) * g.whole(1, 8) {
         row(g, &mut set.frame);

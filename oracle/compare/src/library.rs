@@ -2,7 +2,8 @@
 
 use crate::calls::{Call, Forward, Inverse, Place};
 use crate::common::fields::{of_whole, whole};
-use crate::common::refusals::RIGHT;
+use crate::common::sizes::{RIGHT, SPHERE_COORDINATES, SPHERE_STORE, SPHERE_WIDTH};
+use crate::common::sphere_slot::with_cross_product;
 use crate::counts::{
     FAIR_TURNS, FORWARD, FROM_LON_LAT, NEAREST, OPEN, SHOW, SLOT_STATE, SQRT, SQRT_ROUNDS, TO_LON_LAT,
 };
@@ -64,6 +65,24 @@ impl Buffers {
         }
     }
 
+    // The sphere store with b × c formed anew in every filled slot, and what stood in each of those slots.
+    fn form_cross_products(&mut self) -> Vec<(usize, Vec<f64>)> {
+        let mut before = Vec::new();
+        let slots = self.numbers[2][..SPHERE_STORE].chunks_mut(SPHERE_WIDTH);
+        for (k, slot) in slots.enumerate().filter(|(_, slot)| slot[0] == 1.0) {
+            before.push((k, slot.to_vec()));
+            let own = with_cross_product(&slot[1..1 + SPHERE_COORDINATES]);
+            slot[1..].copy_from_slice(&own);
+        }
+        before
+    }
+
+    fn put_back(&mut self, before: Vec<(usize, Vec<f64>)>) {
+        for (k, slot) in before {
+            self.numbers[2][k * SPHERE_WIDTH..(k + 1) * SPHERE_WIDTH].copy_from_slice(&slot);
+        }
+    }
+
     // The first place where they differ from a set, bit for bit, or where what lies behind has changed.
     pub fn differing(&self, set: &Set) -> Option<String> {
         for (k, part) in parts(set).into_iter().enumerate() {
@@ -116,6 +135,7 @@ impl Library {
         self.ended(OPEN, status, vec![], Some(buffers))
     }
 
+    // For the self-test also as a library would answer that forms b × c of filled slots.
     pub fn call(
         &mut self,
         buffers: &mut Buffers,
@@ -123,11 +143,23 @@ impl Library {
         lent: [usize; 3],
         x: &[f64],
     ) -> Outcome {
+        let number = FORWARD + call as usize;
+        if !self.spoil.is_some_and(|spoil| spoil.forms(number)) {
+            let (status, numbers) = Library::called(buffers, call, lent, x);
+            return self.ended(number, status, numbers, Some(buffers));
+        }
+        let before = buffers.form_cross_products();
+        let (status, numbers) = Library::called(buffers, call, lent, x);
+        buffers.put_back(before);
+        Outcome { status, numbers }
+    }
+
+    fn called(buffers: &mut Buffers, call: Call, lent: [usize; 3], x: &[f64]) -> (u8, Vec<f64>) {
         let [frame, face, sphere] = &mut buffers.numbers;
         let (frame, face, sphere) = (frame.as_ptr(), face.as_mut_ptr(), sphere.as_mut_ptr());
         let ([a, b, c], [p, q]) = (lent, [x[0], x[1]]);
         let mut to = [BEFORE; 2];
-        let (status, numbers) = if call == Place {
+        if call == Place {
             let mut id = BYTE_BEFORE;
             let place = raw::a5_place;
             let status = unsafe { place(frame, a, face, b, sphere, c, p, q, &mut id, &mut to) };
@@ -141,8 +173,7 @@ impl Library {
             let origin = of_whole(x[2]) as u8;
             let status = unsafe { function(frame, a, face, b, sphere, c, p, q, origin, &mut to) };
             (status, to.to_vec())
-        };
-        self.ended(FORWARD + call as usize, status, numbers, Some(buffers))
+        }
     }
 
     pub fn nearest(&mut self, x: [f64; 2]) -> Outcome {

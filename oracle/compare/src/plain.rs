@@ -3,9 +3,9 @@
 
 use crate::calls::{Call, Forward, Inverse, Place, Unplace};
 use crate::common::fields::{of_whole, whole};
-use crate::common::refusals::RIGHT;
+use crate::common::sizes::{FACE_SLOTS, RIGHT, SPHERE_SLOTS, SPHERE_WIDTH};
 use crate::library::{Buffers, Library};
-use crate::set::{Set, FACE_SLOTS, SPHERE_SLOTS};
+use crate::set::Set;
 use a5_plain::coordinate_systems::{Cartesian, Face, LonLat, Radians, Spherical};
 use a5_plain::core::coordinate_transforms;
 use a5_plain::core::origin::find_nearest_origin;
@@ -109,7 +109,7 @@ impl Ours {
         self.buffers.take(&self.opened);
         let outcome = self.library.call(&mut self.buffers, call, RIGHT, x);
         let slot = self.buffers.numbers[2]
-            .chunks(10)
+            .chunks(SPHERE_WIDTH)
             .position(|slot| slot[0] == 1.0)?;
         (outcome.status == 0).then_some((outcome.numbers, slot))
     }

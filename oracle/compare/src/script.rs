@@ -2,12 +2,16 @@
 // outcomes and all numbers of the buffers must be the same. What should stand there comes from the Rust's side alone.
 
 use crate::calls::{self, Call};
-use crate::common::fields::{bits, of_spherical_triangle, of_triangle, whole};
-use crate::common::refusals::{lengths, RIGHT};
+use crate::common::fields::{bits, of_triangle, whole};
+use crate::common::refusals::lengths;
+use crate::common::sizes::{
+    FACE_COORDINATES, FACE_SLOTS, FACE_WIDTH, RIGHT, SPHERE_COORDINATES, SPHERE_SLOTS, SPHERE_WIDTH,
+};
+use crate::common::sphere_slot::of_spherical_triangle;
 use crate::counts::{Asked, Counts, Where, FORWARD, OPEN, SHOW, SLOT_STATE};
 use crate::library::{Buffers, Library};
 use crate::outcome::Outcome;
-use crate::set::{new_projection, Set, FACE_SLOTS, FACE_WIDTH, SPHERE_SLOTS, SPHERE_WIDTH};
+use crate::set::{new_projection, Set};
 use a5::projections::dodecahedron::DodecahedronProjection;
 
 pub struct Script {
@@ -22,8 +26,8 @@ pub struct Script {
     full: bool,
 }
 
-// "2: face store isn't 210 long. 3: sphere store isn't 2,400 long. 10: slot 30 or more (face), 240 or more (sphere)." The Rust
-// has no show. 0 names the face store here, and every other number the sphere store.
+// "2: face store isn't 210 long." 3: the sphere store isn't 3,120 long. "10: slot 30 or more (face), 240 or more (sphere)." The
+// Rust has no show. 0 names the face store here, and every other number the sphere store.
 fn slot_given(set: &Set, kind: u8, slot: usize, lent: [usize; 3]) -> Result<bool, u8> {
     lengths([RIGHT[0], lent[1], lent[2]])?;
     match kind {
@@ -34,11 +38,15 @@ fn slot_given(set: &Set, kind: u8, slot: usize, lent: [usize; 3]) -> Result<bool
     }
 }
 
-// "It hands back the coordinates as a part of whichever store was named, or an empty part at the face store's start."
+// "It hands back the coordinates as a part of whichever store was named, or an empty part at the face store's start." Paper 6:
+// "Show still gives the nine coordinates."
 fn part(kind: u8, slot: usize, filled: bool) -> Vec<f64> {
-    let width = if kind == 0 { FACE_WIDTH } else { SPHERE_WIDTH };
+    let (width, coordinates) = match kind {
+        0 => (FACE_WIDTH, FACE_COORDINATES),
+        _ => (SPHERE_WIDTH, SPHERE_COORDINATES),
+    };
     let numbers = if filled {
-        [slot * width + 1, width - 1]
+        [slot * width + 1, coordinates]
     } else {
         [0, 0]
     };
@@ -115,13 +123,13 @@ impl Script {
         self.lend(&self.set.clone());
     }
 
-    pub fn put_face(&mut self, slot: usize, mark: f64, coordinates: &[f64]) {
-        self.set.put_face(slot, mark, coordinates);
+    pub fn put_face(&mut self, slot: usize, mark: f64, numbers: &[f64]) {
+        self.set.put_face(slot, mark, numbers);
         self.lend(&self.set.clone());
     }
 
-    pub fn put_sphere(&mut self, slot: usize, mark: f64, coordinates: &[f64]) {
-        self.set.put_sphere(slot, mark, coordinates);
+    pub fn put_sphere(&mut self, slot: usize, mark: f64, numbers: &[f64]) {
+        self.set.put_sphere(slot, mark, numbers);
         self.lend(&self.set.clone());
     }
 

@@ -1,7 +1,8 @@
 // Nearest and open as calls. The Rust refuses nothing and has no lent buffers: these are document 01's, under its words.
 
 use crate::common::fields::{of_whole, spherical, whole};
-use crate::common::refusals::{check, lengths, RIGHT, SPHERICAL_LIMITS};
+use crate::common::refusals::{check, lengths, SPHERICAL_LIMITS};
+use crate::common::sizes::RIGHT;
 use a5::core::origin::find_nearest_origin;
 
 pub fn nearest(x: [f64; 2]) -> Result<[f64; 1], u8> {

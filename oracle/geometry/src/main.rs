@@ -11,7 +11,7 @@ mod steps;
 use common::fields::whole;
 use common::generator::Generator;
 use common::list::{self, List};
-use common::refusals::{FACE_STORE, FRAME, SPHERE_STORE};
+use common::sizes::{FACE_STORE, FRAME, SPHERE_STORE};
 
 // The tables: twelve origins of seven numbers, thirty triangles of three corners, 62 rows, and both stores, three numbers
 // to a record. "Open writes the frame and fills both stores with 0.0."

@@ -23,14 +23,16 @@ fn tie() {
     assert_eq!(calls::nearest(of_spherical(point)), Ok([whole(1)]));
 }
 
-// The examples of 1, 2 and 3 in the table; 5 and 6, theta before phi.
+// The examples of 1, 2 and 3 in the table, the sphere store as Paper 6 has it; 5 and 6, theta before phi.
 fn refusals() {
     let open = |lengths: [usize; 3]| calls::open(lengths.map(whole));
-    assert_eq!(open([186, 210, 2400]), Ok(()));
-    assert_eq!(open([185, 210, 2400]), Err(1));
+    assert_eq!(open([186, 210, 3120]), Ok(()));
+    assert_eq!(open([185, 210, 3120]), Err(1));
+    assert_eq!(open([186, 0, 3120]), Err(2));
+    for other in [2400, 2401, 3119, 3121] {
+        assert_eq!(open([186, 210, other]), Err(3));
+    }
     assert_eq!(open([186, 0, 2400]), Err(2));
-    assert_eq!(open([186, 210, 2401]), Err(3));
-    assert_eq!(open([186, 0, 2401]), Err(2));
     assert_eq!(calls::nearest([9.0, f64::NAN]), Err(6));
     assert_eq!(calls::nearest([f64::NAN, 9.0]), Err(5));
     assert_eq!(calls::nearest([8.0, f64::INFINITY]), Err(5));

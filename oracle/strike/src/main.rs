@@ -17,6 +17,9 @@ mod refusals;
 #[allow(dead_code)]
 mod selftest;
 mod session;
+#[allow(dead_code)]
+#[path = "../../common/sizes.rs"]
+mod sizes;
 
 use std::io::{self, BufReader, BufWriter, Write};
 
