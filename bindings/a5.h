@@ -35,17 +35,20 @@
 extern "C" {
 #endif
 
-/* How many numbers each buffer of a set has. */
-#define A5_FRAME 186         /* 62 rows of 3 */
-#define A5_FACE_STORE 210    /* 30 slots of 7 */
-#define A5_SPHERE_STORE 2400 /* 240 slots of 10 */
-
 /* A slot is a mark, 1.0 where it is filled, and then the vertices a, b, c of a triangle, with two coordinates each in
- * the face store and three in the sphere store. */
+ * the face store and three in the sphere store. In a sphere slot the three numbers of b x c follow, the cross product:
+ * forward and place read it there as it stands. The width is how many numbers a slot has. */
 #define A5_FACE_SLOTS 30
-#define A5_FACE_WIDTH 7
+#define A5_FACE_COORDINATES 6
+#define A5_FACE_WIDTH (1 + A5_FACE_COORDINATES)
 #define A5_SPHERE_SLOTS 240
-#define A5_SPHERE_WIDTH 10
+#define A5_SPHERE_COORDINATES 9
+#define A5_SPHERE_WIDTH (1 + A5_SPHERE_COORDINATES + 3)
+
+/* How many numbers each buffer of a set has: 186, 210 and 3,120. */
+#define A5_FRAME (62 * 3)
+#define A5_FACE_STORE (A5_FACE_SLOTS * A5_FACE_WIDTH)
+#define A5_SPHERE_STORE (A5_SPHERE_SLOTS * A5_SPHERE_WIDTH)
 
 /* Origins are numbered from 0 to 11. */
 #define A5_ORIGINS 12
@@ -68,9 +71,9 @@ extern "C" {
  * passed is tried for 5 and then 6 before the next one, and 19 is tried after 8 and before 9. */
 enum a5_status {
     A5_ANSWERED = 0,
-    A5_REFUSED_FRAME_LENGTH = 1,        /* the frame isn't 186 long */
-    A5_REFUSED_FACE_STORE_LENGTH = 2,   /* the face store isn't 210 long */
-    A5_REFUSED_SPHERE_STORE_LENGTH = 3, /* the sphere store isn't 2,400 long */
+    A5_REFUSED_FRAME_LENGTH = 1,        /* the frame isn't A5_FRAME long */
+    A5_REFUSED_FACE_STORE_LENGTH = 2,   /* the face store isn't A5_FACE_STORE long */
+    A5_REFUSED_SPHERE_STORE_LENGTH = 3, /* the sphere store isn't A5_SPHERE_STORE long */
     A5_REFUSED_UNKNOWN_ORIGIN = 4,      /* the origin's number is above 11 */
     A5_REFUSED_NOT_FINITE = 5,          /* a number passed is infinite or NaN */
     A5_REFUSED_OUT_OF_RANGE = 6,        /* a number passed is outside its range */

@@ -1,5 +1,5 @@
 /* The C interface, tried on the linked library: open, refusals, wrong lengths, the session of document 01, a session of
- * place and unplace, show, and fair turns. Prints what failed and then one line; the exit status is 0 where nothing failed. */
+ * place and unplace, show, b x c in a sphere slot, and fair turns. Prints what failed and then one line; the exit status is 0 where nothing failed. */
 #include "../a5.h"
 #include "check.h"
 #include <math.h>
@@ -130,6 +130,9 @@ static void opening_a_set(void) {
 
 /* ---- refusals */
 
+/* How long a sphere store was before b x c stood in its slots: 240 slots of 10. */
+enum { OLD_SPHERE_STORE = 2400 };
+
 static void wrong_lengths_of(const char *name, call *tried) {
     struct set s = filled_with(0.25);
     const size_t lengths[3] = {A5_FRAME, A5_FACE_STORE, A5_SPHERE_STORE};
@@ -142,6 +145,8 @@ static void wrong_lengths_of(const char *name, call *tried) {
         }
         *buffers[b] = lengths[b];
     }
+    s.sphere_length = OLD_SPHERE_STORE;
+    refuses(name, tried, &s, 0.0, 0.0, 0, A5_REFUSED_SPHERE_STORE_LENGTH);
     s.sphere_length = 0;
     refuses(name, tried, &s, NAN, NAN, 12, A5_REFUSED_SPHERE_STORE_LENGTH);
     s.face_length = 0;
@@ -213,28 +218,26 @@ static void show_refuses(struct set *s, uint8_t kind, size_t slot, uint8_t numbe
     CHECK(same_numbers(s, &before), "show");
 }
 
-/* Show and its companion answer: the slot is empty, or its part lies behind a mark of 1.0. */
-static int is_shown(const struct set *s, uint8_t kind, size_t slot, size_t width) {
-    const double *store = kind == A5_KIND_FACE ? s->face : s->sphere;
+/* Show and its companion answer: the slot is empty, or its coordinates, six or nine, lie behind a mark of 1.0. */
+static int is_shown(const struct set *s, uint8_t kind, size_t slot) {
+    const int is_face = kind == A5_KIND_FACE;
+    const double *store = is_face ? s->face : s->sphere;
+    const size_t width = is_face ? A5_FACE_WIDTH : A5_SPHERE_WIDTH, coordinates = is_face ? 6 : 9;
     size_t part[2] = {7777, 8888};
     uint8_t filled = 99;
     CHECK(a5_show(STORES(s), kind, slot, part) == A5_ANSWERED, "show");
     CHECK(a5_slot_state(STORES(s), kind, slot, &filled) == A5_ANSWERED, "slot_state");
     CHECK(filled == (store[slot * width] == 1.0), "slot_state");
     CHECK(part[0] == (filled ? slot * width + 1 : 0), "show");
-    CHECK(part[1] == (filled ? width - 1 : 0), "show");
+    CHECK(part[1] == (filled ? coordinates : 0), "show");
     return filled;
 }
 
 static int shown_in(const struct set *s, uint8_t kind) {
+    const size_t slots = kind == A5_KIND_FACE ? A5_FACE_SLOTS : A5_SPHERE_SLOTS;
     int count = 0;
-    if (kind == A5_KIND_FACE) {
-        for (size_t slot = 0; slot < A5_FACE_SLOTS; slot++)
-            count += is_shown(s, kind, slot, A5_FACE_WIDTH);
-    } else {
-        for (size_t slot = 0; slot < A5_SPHERE_SLOTS; slot++)
-            count += is_shown(s, kind, slot, A5_SPHERE_WIDTH);
-    }
+    for (size_t slot = 0; slot < slots; slot++)
+        count += is_shown(s, kind, slot);
     return count;
 }
 
@@ -243,23 +246,69 @@ static void showing(void) {
     CHECK(shown_in(&s, A5_KIND_FACE) == 0 && shown_in(&s, A5_KIND_SPHERE) == 0, "before place");
     CHECK(place(&s, 16.3725, 48.2083, 0).id == 5, "place");
     CHECK(shown_in(&s, A5_KIND_FACE) == 1 && shown_in(&s, A5_KIND_SPHERE) == 1, "after place");
-    CHECK(is_shown(&s, A5_KIND_FACE, 9, A5_FACE_WIDTH), "face slot 9");
-    CHECK(is_shown(&s, A5_KIND_SPHERE, 59, A5_SPHERE_WIDTH), "sphere slot 59");
-    CHECK(is_shown(&s, 255, 59, A5_SPHERE_WIDTH), "any other number names the sphere store");
+    CHECK(is_shown(&s, A5_KIND_FACE, 9), "face slot 9");
+    CHECK(is_shown(&s, A5_KIND_SPHERE, 59), "sphere slot 59");
+    CHECK(is_shown(&s, 255, 59), "any other number names the sphere store");
 
     show_refuses(&s, A5_KIND_FACE, A5_FACE_SLOTS, A5_REFUSED_UNKNOWN_SLOT);
     show_refuses(&s, A5_KIND_SPHERE, A5_SPHERE_SLOTS, A5_REFUSED_UNKNOWN_SLOT);
     show_refuses(&s, A5_KIND_FACE, SIZE_MAX, A5_REFUSED_UNKNOWN_SLOT);
     show_refuses(&s, A5_KIND_SPHERE, SIZE_MAX, A5_REFUSED_UNKNOWN_SLOT);
-    const size_t wrong_sphere[] = {0, A5_SPHERE_STORE - 1, A5_SPHERE_STORE + 1};
+    const size_t wrong_sphere[] = {0, OLD_SPHERE_STORE, A5_SPHERE_STORE - 1, A5_SPHERE_STORE + 1};
     const size_t wrong_face[] = {0, A5_FACE_STORE - 1, A5_FACE_STORE + 1};
-    for (int w = 0; w < 3; w++) {
+    for (int w = 0; w < 4; w++) {
         s.sphere_length = wrong_sphere[w];
         show_refuses(&s, A5_KIND_FACE, A5_FACE_SLOTS, A5_REFUSED_SPHERE_STORE_LENGTH);
     }
     for (int w = 0; w < 3; w++) {
         s.face_length = wrong_face[w];
         show_refuses(&s, A5_KIND_SPHERE, 0, A5_REFUSED_FACE_STORE_LENGTH);
+    }
+}
+
+/* ---- b x c in a sphere slot */
+
+/* The only filled sphere slot. */
+static double *filled_sphere(struct set *s) {
+    double *found = NULL;
+    for (size_t slot = 0; slot < A5_SPHERE_SLOTS; slot++) {
+        double *numbers = s->sphere + slot * A5_SPHERE_WIDTH;
+        if (numbers[0] != 1.0)
+            continue;
+        CHECK(found == NULL, "one filled slot");
+        found = numbers;
+    }
+    return found;
+}
+
+/* Each call on a set fills all 13 numbers of its sphere slot: 1.0, a, b, c and b x c, bit for bit. A slot that is filled
+ * with another b x c is left as it is; forward and place follow it, inverse and unplace answer as before. */
+static void cross_products(void) {
+    for (int c = 0; c < ON_A_SET; c++) {
+        const int reads = CALLS[c].call == forward || CALLS[c].call == place;
+        struct set s = opened();
+        struct outcome before = CALLS[c].call(&s, 0.3, 0.4, 5);
+        double *slot = filled_sphere(&s);
+        CHECK(before.status == A5_ANSWERED && slot != NULL, CALLS[c].name);
+        if (slot == NULL)
+            continue;
+        const double *vb = slot + 4, *vc = slot + 7;
+        double *bxc = slot + 1 + A5_SPHERE_COORDINATES;
+        const double formed[3] = {
+            vb[1] * vc[2] - vb[2] * vc[1],
+            vb[2] * vc[0] - vb[0] * vc[2],
+            vb[0] * vc[1] - vb[1] * vc[0],
+        };
+        CHECK(A5_SPHERE_WIDTH == 13 && bxc + 3 == slot + A5_SPHERE_WIDTH, "13 numbers");
+        CHECK(memcmp(bxc, formed, sizeof formed) == 0, CALLS[c].name);
+
+        for (int i = 0; i < 3; i++)
+            bxc[i] *= 1.125;
+        struct set foreign = s;
+        struct outcome after = CALLS[c].call(&s, 0.3, 0.4, 5);
+        CHECK(after.status == A5_ANSWERED, CALLS[c].name);
+        CHECK(same_outcome(after, before) == !reads, CALLS[c].name);
+        CHECK(same_numbers(&s, &foreign), CALLS[c].name);
     }
 }
 
@@ -426,6 +475,7 @@ int main(void) {
     wrong_numbers();
     wrong_contents_and_answers();
     showing();
+    cross_products();
     fair_turns();
     square_roots();
     session_of_document_01();

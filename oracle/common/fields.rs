@@ -1,8 +1,6 @@
 // The Rust's values from numbers and back, in the order of its fields. A whole number stands as it is, not as a float.
 
-use a5::coordinate_systems::{
-    Cartesian, Face, FaceTriangle, LonLat, Polar, Radians, Spherical,
-};
+use a5::coordinate_systems::{Cartesian, Face, FaceTriangle, LonLat, Polar, Radians, Spherical};
 
 // The float with the bits of a whole number, as a list has it, and back.
 pub fn whole(n: usize) -> f64 {

@@ -1,6 +1,6 @@
 //! Places two lightning strikes on their faces, brings them back, and shows a triangle that the set keeps for later.
 
-use a5_faces::{LonLat, Refusal, Set, Store};
+use a5_faces::{LonLat, Refusal, Set, Store, FACE_SLOTS, SPHERE_SLOTS};
 
 fn there_and_back(set: &mut Set, position: LonLat) -> Result<(), Refusal> {
     let place = set.place(position)?;
@@ -20,7 +20,7 @@ fn main() -> Result<(), Refusal> {
             },
         )?;
     }
-    for (store, slots) in [(Store::Face, 30), (Store::Sphere, 240)] {
+    for (store, slots) in [(Store::Face, FACE_SLOTS), (Store::Sphere, SPHERE_SLOTS)] {
         for slot in 0..slots {
             if let Some(coordinates) = set.show(store, slot)? {
                 println!("{store:?} slot {slot}: {coordinates:.4?}");

@@ -32,9 +32,21 @@ pub use window::Window;
 pub const CHANNELS: usize = 16;
 /// How many bytes a [sheet](Window::sheet) has: 60 lines of 80 columns and a newline.
 pub const PAGE: usize = 4860;
+/// How many slots the face store has.
+pub const FACE_SLOTS: usize = 30;
+/// How many coordinates a face slot has: two of each vertex of its triangle.
+pub const FACE_COORDINATES: usize = 6;
+/// How many numbers a face slot has: a mark, 1.0 where it is filled, and the coordinates.
+pub const FACE_WIDTH: usize = 1 + FACE_COORDINATES;
+/// How many slots the sphere store has.
+pub const SPHERE_SLOTS: usize = 240;
+/// How many coordinates a sphere slot has: three of each vertex a, b, c of its triangle.
+pub const SPHERE_COORDINATES: usize = 9;
+/// How many numbers a sphere slot has: a mark, the coordinates, and b × c, which forward and place read there.
+pub const SPHERE_WIDTH: usize = 1 + SPHERE_COORDINATES + 3;
 /// How many numbers the frame has: 62 rows of 3.
-pub const FRAME: usize = 186;
-/// How many numbers the face store has: 30 slots of 7.
-pub const FACE_STORE: usize = 210;
-/// How many numbers the sphere store has: 240 slots of 10.
-pub const SPHERE_STORE: usize = 2400;
+pub const FRAME: usize = 62 * 3;
+/// How many numbers the face store has: 210.
+pub const FACE_STORE: usize = FACE_SLOTS * FACE_WIDTH;
+/// How many numbers the sphere store has: 3,120.
+pub const SPHERE_STORE: usize = SPHERE_SLOTS * SPHERE_WIDTH;

@@ -8,7 +8,7 @@ pub enum Refusal {
     FrameLength = 1,
     /// The face store isn't 210 long.
     FaceStoreLength = 2,
-    /// The sphere store isn't 2,400 long.
+    /// The sphere store isn't [`SPHERE_STORE`](crate::SPHERE_STORE) long.
     SphereStoreLength = 3,
     /// The origin's number is above 11.
     UnknownOrigin = 4,

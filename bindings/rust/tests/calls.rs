@@ -2,9 +2,13 @@
 //! session of place and unplace, and show.
 
 use a5_faces::{calls, Face, LonLat, Place, Refusal, Set, Spherical, Store};
-use a5_faces::{FACE_STORE, FRAME, SPHERE_STORE};
+use a5_faces::{
+    FACE_SLOTS, FACE_STORE, FRAME, SPHERE_COORDINATES, SPHERE_SLOTS, SPHERE_STORE, SPHERE_WIDTH,
+};
 
 const LENGTHS: [usize; 3] = [FRAME, FACE_STORE, SPHERE_STORE];
+// Before b × c stood in a sphere slot: 240 slots of 10.
+const OLD_SPHERE_STORE: usize = 2400;
 
 // ---- buffers of any length and contents, and the calls on them in one form
 
@@ -149,6 +153,8 @@ fn a_wrong_length_is_refused() {
             let mut buffers = Buffers::filled_with(0.25, lengths);
             refuses(call, &mut buffers, [f64::NAN, 0.0], 12, Refusal::ALL[b]);
         }
+        let mut old = Buffers::filled_with(0.25, [FRAME, FACE_STORE, OLD_SPHERE_STORE]);
+        refuses(call, &mut old, [0.0, 0.0], 0, Refusal::SphereStoreLength);
     }
 }
 
@@ -231,7 +237,10 @@ fn an_answer_that_is_not_finite_is_refused() {
 #[test]
 fn a_point_too_far_off_the_face_is_refused() {
     for call in [inverse, unplace] {
-        for (point, origin) in [([1.235847662, -0.125812592], 7), ([1.235734985, 0.265693756], 4)] {
+        for (point, origin) in [
+            ([1.235847662, -0.125812592], 7),
+            ([1.235734985, 0.265693756], 4),
+        ] {
             let mut buffers = Buffers::opened();
             refuses(call, &mut buffers, point, origin, Refusal::AngleOutside);
             // 8 comes before it
@@ -260,19 +269,19 @@ fn filled_slots(set: &Set, store: Store, slots: usize, coordinates: usize) -> Ve
 #[test]
 fn show_before_and_after_place() {
     let mut set = Set::new().unwrap();
-    assert!(filled_slots(&set, Store::Face, 30, 6).is_empty());
-    assert!(filled_slots(&set, Store::Sphere, 240, 9).is_empty());
+    assert!(filled_slots(&set, Store::Face, FACE_SLOTS, 6).is_empty());
+    assert!(filled_slots(&set, Store::Sphere, SPHERE_SLOTS, 9).is_empty());
     assert_eq!(set.place(lon_lat(16.3725, 48.2083)).unwrap().origin, 5);
-    assert_eq!(filled_slots(&set, Store::Face, 30, 6), [9]);
-    assert_eq!(filled_slots(&set, Store::Sphere, 240, 9), [59]);
+    assert_eq!(filled_slots(&set, Store::Face, FACE_SLOTS, 6), [9]);
+    assert_eq!(filled_slots(&set, Store::Sphere, SPHERE_SLOTS, 9), [59]);
 
     // the part is the store's own memory, behind the slot's mark
     let [_, face, sphere] = set.buffers();
     let shown = set.show(Store::Face, 9).unwrap().unwrap();
     assert_eq!(shown.as_ptr_range(), face[64..70].as_ptr_range());
     let shown = set.show(Store::Sphere, 59).unwrap().unwrap();
-    assert_eq!(shown.as_ptr_range(), sphere[591..600].as_ptr_range());
-    assert_eq!((face[63], sphere[590]), (1.0, 1.0));
+    assert_eq!(shown.as_ptr_range(), sphere[768..777].as_ptr_range());
+    assert_eq!((face[63], sphere[767]), (1.0, 1.0));
 }
 
 fn show_refuses(buffers: &Buffers, store: Store, slot: usize, refusal: Refusal) {
@@ -284,18 +293,81 @@ fn show_refuses(buffers: &Buffers, store: Store, slot: usize, refusal: Refusal) 
 #[test]
 fn show_is_refused() {
     let set = Buffers::filled_with(1.0, LENGTHS);
-    for (store, slots) in [(Store::Face, 30), (Store::Sphere, 240)] {
+    for (store, slots) in [(Store::Face, FACE_SLOTS), (Store::Sphere, SPHERE_SLOTS)] {
         show_refuses(&set, store, slots, Refusal::UnknownSlot);
         show_refuses(&set, store, usize::MAX, Refusal::UnknownSlot);
         for wrong in [0, FACE_STORE - 1, FACE_STORE + 1] {
             let buffers = Buffers::filled_with(1.0, [FRAME, wrong, 0]);
             show_refuses(&buffers, store, slots, Refusal::FaceStoreLength);
         }
-        for wrong in [0, SPHERE_STORE - 1, SPHERE_STORE + 1] {
+        for wrong in [0, OLD_SPHERE_STORE, SPHERE_STORE - 1, SPHERE_STORE + 1] {
             let buffers = Buffers::filled_with(1.0, [FRAME, FACE_STORE, wrong]);
             show_refuses(&buffers, store, slots, Refusal::SphereStoreLength);
         }
     }
+}
+
+// ---- b × c in a sphere slot
+
+// The numbers of the only filled sphere slot.
+fn filled_sphere(buffers: &mut Buffers) -> &mut [f64] {
+    let slots = buffers.0[2].chunks_mut(SPHERE_WIDTH);
+    let mut filled = slots.filter(|slot| slot[0] == 1.0);
+    let slot = filled.next().expect("a filled slot");
+    assert!(filled.next().is_none());
+    slot
+}
+
+fn cross(b: &[f64], c: &[f64]) -> [u64; 3] {
+    let bxc = [
+        b[1] * c[2] - b[2] * c[1],
+        b[2] * c[0] - b[0] * c[2],
+        b[0] * c[1] - b[1] * c[0],
+    ];
+    bxc.map(f64::to_bits)
+}
+
+#[test]
+fn each_call_fills_thirteen_numbers_with_the_cross_product() {
+    for call in ON_A_SET {
+        let mut buffers = Buffers::opened();
+        assert_eq!(call(&mut buffers, 0.3, 0.4, 5), Ok(()));
+        let slot = filled_sphere(&mut buffers);
+        assert_eq!(slot.len(), 13);
+        let (triangle, bxc) = slot.split_at(1 + SPHERE_COORDINATES);
+        let kept: Vec<u64> = bxc.iter().map(|x| x.to_bits()).collect();
+        assert_eq!(kept, cross(&triangle[4..7], &triangle[7..10]));
+    }
+}
+
+// Forward and place of a position in Vienna, inverse and unplace of a point: all four use the same sphere slot.
+fn four(set: &mut Buffers, point: Place) -> (Face, Place, Spherical, LonLat) {
+    let [frame, face, sphere] = &mut set.0;
+    let vienna = lon_lat(16.3725, 48.2083);
+    let position = calls::from_lon_lat(vienna).unwrap();
+    (
+        calls::forward(frame, face, sphere, position, point.origin).unwrap(),
+        calls::place(frame, face, sphere, vienna).unwrap(),
+        calls::inverse(frame, face, sphere, point).unwrap(),
+        calls::unplace(frame, face, sphere, point).unwrap(),
+    )
+}
+
+// With another b × c than that of its b and c in the slot: forward and place follow it, inverse and unplace don't, and all leave
+// it as it is.
+#[test]
+fn forward_and_place_read_the_cross_product_as_it_stands() {
+    let (_, point, _, _) = four(&mut Buffers::opened(), place_at(0.1, 0.1, 5));
+    let mut set = Buffers::opened();
+    let before = four(&mut set, point);
+    let bxc = &mut filled_sphere(&mut set)[1 + SPHERE_COORDINATES..];
+    bxc.iter_mut().for_each(|x| *x *= 1.125);
+    let foreign = set.bits();
+    let after = four(&mut set, point);
+    assert_ne!(after.0, before.0);
+    assert_ne!(after.1, before.1);
+    assert_eq!((after.2, after.3), (before.2, before.3));
+    assert_eq!(set.bits(), foreign);
 }
 
 // ---- sessions

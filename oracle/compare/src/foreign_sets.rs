@@ -108,8 +108,12 @@ pub fn any(g: &mut Generator, defined: &Set) -> Set {
             other(g, numbers);
         }
     };
-    set.face.chunks_mut(FACE_WIDTH).for_each(|numbers| each(numbers, slot));
-    set.sphere.chunks_mut(SPHERE_WIDTH).for_each(|numbers| each(numbers, sphere_slot));
+    set.face
+        .chunks_mut(FACE_WIDTH)
+        .for_each(|numbers| each(numbers, slot));
+    set.sphere
+        .chunks_mut(SPHERE_WIDTH)
+        .for_each(|numbers| each(numbers, sphere_slot));
     // rows 0, 32 and 12 go into every answer: mostly they are left
     for _ in 0..g.whole(0, 2) * g.whole(1, 8) {
         row(g, &mut set.frame);

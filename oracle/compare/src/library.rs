@@ -5,7 +5,8 @@ use crate::common::fields::{of_whole, whole};
 use crate::common::sizes::{RIGHT, SPHERE_COORDINATES, SPHERE_STORE, SPHERE_WIDTH};
 use crate::common::sphere_slot::with_cross_product;
 use crate::counts::{
-    FAIR_TURNS, FORWARD, FROM_LON_LAT, NEAREST, OPEN, SHOW, SLOT_STATE, SQRT, SQRT_ROUNDS, TO_LON_LAT,
+    FAIR_TURNS, FORWARD, FROM_LON_LAT, NEAREST, OPEN, SHOW, SLOT_STATE, SQRT, SQRT_ROUNDS,
+    TO_LON_LAT,
 };
 use crate::outcome::{show, Outcome, BEFORE};
 use crate::raw;

@@ -9,7 +9,10 @@ use std::process::Command;
 // How a run ended, and its first line.
 fn ended(words: &[&str]) -> (Option<i32>, String) {
     let program = std::env::current_exe().expect("this program");
-    let output = Command::new(program).args(["200", "1"]).args(words).output();
+    let output = Command::new(program)
+        .args(["200", "1"])
+        .args(words)
+        .output();
     let output = output.expect("it runs");
     let text = String::from_utf8_lossy(&output.stdout).into_owned();
     (

@@ -51,7 +51,11 @@ fn test() {
         for vertex in 0..3 {
             let v = sphere_vertex([whole(slot), whole(vertex)]);
             let dot = (0..3).map(|i| bxc[i] * v[i]).sum::<f64>();
-            assert_eq!(dot.abs() < 1e-15, vertex > 0, "slot {slot}, vertex {vertex}");
+            assert_eq!(
+                dot.abs() < 1e-15,
+                vertex > 0,
+                "slot {slot}, vertex {vertex}"
+            );
         }
     }
 }
