@@ -8,6 +8,7 @@ use replay::record::word;
 use set::sizes::FACE_COORDINATES;
 use set::sizes::FACE_SLOTS;
 use set::sizes::SPHERE_COORDINATES;
+use set::sizes::SPHERE_CROSS;
 use set::sizes::SPHERE_SLOTS;
 use set::sizes::SPHERE_STORE;
 use set::sizes::SPHERE_WIDTH;
@@ -67,7 +68,7 @@ fn cross_product(
     let SlotState::Filled = slot_state(face_store, sphere_store, StoreKind::Sphere, k) else {
         return refused(NO_SUCH_VERTEX);
     };
-    let at = SPHERE_WIDTH * k + 1 + SPHERE_COORDINATES;
+    let at = SPHERE_WIDTH * k + SPHERE_CROSS;
     three(sphere_store[at], sphere_store[at + 1], sphere_store[at + 2])
 }
 
