@@ -1,5 +1,5 @@
-// Runs this program with one bit changed on the library's side: every such run must end at a difference in that call. A run
-// with nothing changed must not.
+// Runs this program with one bit or one step changed on the library's side: every such run must end at a difference in that
+// call. A run with nothing changed must not.
 
 use crate::counts::{CALLS, PLACES};
 use crate::spoil::{FORMED, WHATS};
