@@ -12,7 +12,7 @@ abbrev pub numberOf : Refusal → ℕ
 numberOf refusal.FrameLength = 1
 -- "face store isn't 210 long"
 numberOf refusal.FaceStoreLength = 2
--- "sphere store isn't 2,400 long"
+-- the sphere store; Paper 6: "The store is 3,120 numbers, and refusal 3 is for every other length."
 numberOf refusal.SphereStoreLength = 3
 -- "origin id above 11"
 numberOf refusal.UnknownOrigin = 4

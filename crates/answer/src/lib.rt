@@ -11,7 +11,7 @@ pub enum Refusal {
     FrameLength,
     // 2: the face store isn't 210 numbers
     FaceStoreLength,
-    // 3: the sphere store isn't 2,400 numbers
+    // 3: the sphere store isn't 3,120 numbers (Paper 6)
     SphereStoreLength,
     // 4: the origin's id is above 11
     UnknownOrigin,
