@@ -1,6 +1,5 @@
-// The two conversions as calls, and the checks of positions and face points: what is out of its range
+// The checks of positions and face points, and the answers of calls that give one: what is out of its range
 // is refused with document 01's number.
-use crate::coordinate_transforms;
 use crate::coords::Face;
 use crate::lonlat::LonLat;
 use crate::spherical::Spherical;
@@ -8,9 +7,8 @@ use answer::Check;
 use answer::Refusal;
 ghost use mathlib.Core.Path.{_≡_};
 ghost use Rattle.answer.specs.Answer.{givenCheck};
-ghost use Rattle.arithmetic.specs.Arith.{ieee};
 ghost use Rattle.coordinates.specs.Conversions.{givenSpherical, givenLonLat, givenFace, checkLonLat, checkSpherical, checkFace};
-ghost use Rattle.coordinates.specs.Conversions.{finiteSpherical, finiteLonLat, finiteFace, fromLonLatGiven, toLonLatGiven};
+ghost use Rattle.coordinates.specs.Conversions.{finiteSpherical, finiteLonLat, finiteFace};
 
 pub enum SphericalAnswer {
     Answered(Spherical),
@@ -94,26 +92,4 @@ pub fn finite_face(face: Face) -> FaceAnswer
         }
     }
     FaceAnswer::Refused(Refusal::AnswerNotFinite)
-}
-
-// Longitude and latitude to spherical angles: refuses with 5 and 6, and with 9 where an angle is not finite.
-pub fn from_lon_lat(lonlat: LonLat) -> SphericalAnswer
-    ensures { λ r. ⌜ givenSpherical r ≡ fromLonLatGiven ieee lonlat ⌝ }
-{
-    let check = check_lon_lat(lonlat);
-    if let Check::Refused(n) = check {
-        return SphericalAnswer::Refused(n);
-    }
-    finite_spherical(coordinate_transforms::from_lon_lat(lonlat))
-}
-
-// Spherical angles to longitude and latitude: refuses with 5 and 6, and with 9 where a number is not finite.
-pub fn to_lon_lat(spherical: Spherical) -> LonLatAnswer
-    ensures { λ r. ⌜ givenLonLat r ≡ toLonLatGiven ieee spherical ⌝ }
-{
-    let check = check_spherical(spherical);
-    if let Check::Refused(n) = check {
-        return LonLatAnswer::Refused(n);
-    }
-    finite_lon_lat(coordinate_transforms::to_lon_lat(spherical))
 }

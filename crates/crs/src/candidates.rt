@@ -1,11 +1,11 @@
 // The 132 points that are tried as rows of the frame.
 use coordinates::base::Radians;
-use coordinates::coordinate_transforms::to_cartesian;
 use coordinates::coords::Cartesian;
 use coordinates::spherical::Spherical;
 use origin::origin::get_origin;
 use origin::quaternion::transform_quat;
 use origin::utils::Origin;
+use transforms::coordinate_transforms::to_cartesian;
 ghost use mathlib.Core.Path.{_≡_};
 ghost use mathlib.Core.Bool.{false};
 ghost use Prim.Native.Nat.{_<_};

@@ -54,7 +54,7 @@ fn add(rows: &mut [f64], used: usize, point: Cartesian) -> usize
     ensures behind { λ r. ⌜ drop r (now (rows .exit)) ≡ drop r (now (rows .entry)) ⌝ }
     ensures used { λ r. ⌜ (used ≤ r) × (r ≤ used + 3) ⌝ }
 {
-    let row = coordinates::vector::normalize(point);
+    let row = vector::normalize(point);
     let found = get_vertex(&rows[..used], row);
     if let VertexAnswer::Answered(_) = found {
         return used;

@@ -5,9 +5,6 @@ use crate::work::FaceWork;
 use crate::work::SphericalDone;
 use crate::work::SphericalWork;
 use coordinates::base::Radians;
-use coordinates::coordinate_transforms::to_cartesian;
-use coordinates::coordinate_transforms::to_polar;
-use coordinates::coordinate_transforms::to_spherical;
 use coordinates::coords::Cartesian;
 use coordinates::coords::Face;
 use coordinates::coords::SphericalTriangle;
@@ -18,6 +15,9 @@ use equal_area::equal_area::PointAnswer;
 use equal_area::equal_area::TriangleConstants;
 use origin::origin::get_origin;
 use origin::utils::Origin;
+use transforms::coordinate_transforms::to_cartesian;
+use transforms::coordinate_transforms::to_polar;
+use transforms::coordinate_transforms::to_spherical;
 use triangles::taken::TakenAnswer;
 use triangles::taken::take;
 ghost use mathlib.Core.Path.{_≡_};
@@ -66,7 +66,7 @@ fn polar_about(origin: Origin, v: Cartesian) -> Polar
     let quat = origin.quat;
     let out = origin::quaternion::transform_quat(v, origin::quaternion::quat_conjugate(quat));
     // unprojected gnomonically to polar coordinates there
-    let polar = coordinates::gnomonic::forward(to_spherical(out));
+    let polar = transforms::gnomonic::forward(to_spherical(out));
     // turned about the face's axis, so that the origin's own angle is off
     Polar {
         rho: polar.rho,

@@ -1,6 +1,4 @@
-// Document 01's elementary steps but the square root and signs (crate square_root): what the library functions mean
-// on f64. Each public function is total and has no requires, but for `sine`'s functions named `.._inside`, which want an
-// argument that is not outside (Paper 7).
-pub mod arctangent;
+// Document 01's elementary steps but the square root and signs (crate square_root): the definitions of all of them, what
+// holds of these, and floor and round. Sine and arc tangent as functions are crates of their own.
 pub mod sine;
 pub mod whole;

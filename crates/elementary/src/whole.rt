@@ -30,7 +30,7 @@ pub fn floor(x: f64) -> f64
 
 // The size of the whole number nearest to a, halves away from zero. a + a is exact, and counts the
 // halves.
-pub(crate) fn nearest_size(a: f64) -> u64
+pub fn nearest_size(a: f64) -> u64
     requires { ⌜ (negative a ≡ false) × (lt a (fin false 1 (pos 52)) ≡ true) ⌝ }
     ensures { λ r. ⌜ (r ≡ roundSize (num a) (den a)) × (r ≤ 2 ^ 52) ⌝ }
 {

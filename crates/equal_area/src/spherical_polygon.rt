@@ -1,10 +1,10 @@
 // The area of a spherical triangle.
+use arctangent::atan2;
+use arctangent::atan2_and_sqrt;
 use coordinates::base::Radians;
 use coordinates::coords::Cartesian;
-use coordinates::vector::dot;
-use coordinates::vector::triple_product;
-use elementary::arctangent::atan2;
-use elementary::arctangent::atan2_and_sqrt;
+use vector::dot;
+use vector::triple_product;
 ghost use mathlib.Core.Path.{_≡_};
 ghost use mathlib.Core.Bool.{true};
 ghost use lib.Ieee.{binary64, ofBits};

@@ -64,7 +64,7 @@ pub extern "C" fn a5_nearest(theta: f64, phi: f64, id: &mut u8) -> u8
 pub extern "C" fn a5_from_lon_lat(longitude: f64, latitude: f64, to: &mut [f64; 2]) -> u8
     ensures { λ r. ⌜ Returns (fromLonLatGiven ieee (lonLat longitude latitude)) r (contents to) angles ⌝ }
 {
-    let given = coordinates::conversions::from_lon_lat(LonLat {
+    let given = transforms::conversions::from_lon_lat(LonLat {
         longitude: Degrees(longitude),
         latitude: Degrees(latitude),
     });
@@ -82,7 +82,7 @@ pub extern "C" fn a5_from_lon_lat(longitude: f64, latitude: f64, to: &mut [f64; 
 pub extern "C" fn a5_to_lon_lat(theta: f64, phi: f64, to: &mut [f64; 2]) -> u8
     ensures { λ r. ⌜ Returns (toLonLatGiven ieee (spherical theta phi)) r (contents to) degrees ⌝ }
 {
-    let given = coordinates::conversions::to_lon_lat(Spherical {
+    let given = transforms::conversions::to_lon_lat(Spherical {
         theta: Radians(theta),
         phi: Radians(phi),
     });

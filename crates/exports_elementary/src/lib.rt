@@ -1,7 +1,7 @@
 // Sine and remainder as C functions, for the benchmark alone: the library's calls are in crates exports and exports_tools.
 use elementary::sine::SineAnswer;
-use elementary::sine::sin;
 use remainder::remainder;
+use sine::sin;
 ghost use mathlib.Core.Path.{_≡_};
 ghost use lib.Ieee.{binary64, rem};
 ghost use Rattle.arithmetic.specs.Arith.{ieee};

@@ -5,7 +5,7 @@ use answer::Check;
 use answer::Refusal;
 use coordinates::base::Radians;
 use coordinates::spherical::Spherical;
-use elementary::sine::sin_inside;
+use sine::sin_inside;
 ghost use mathlib.Core.Path.{_≡_};
 ghost use mathlib.Core.Bool.{false};
 ghost use lib.ListN.{length};

@@ -1,21 +1,19 @@
 // The functions of crate coordinates, each at a record's arguments.
-use coordinates::authalic;
-use coordinates::conversions;
 use coordinates::conversions::LonLatAnswer;
 use coordinates::conversions::SphericalAnswer;
-use coordinates::coordinate_transforms;
 use coordinates::coords::Face;
-use coordinates::gnomonic;
 use coordinates::lonlat::LonLat;
 use coordinates::polar::Polar;
 use coordinates::spherical::Spherical;
-use coordinates::vector;
-use elementary::sine::is_outside;
 use replay::outcome::Outcome;
 use replay::outcome::one;
 use replay::outcome::refused;
 use replay::outcome::three;
 use replay::outcome::two;
+use sine::is_outside;
+use transforms::conversions;
+use transforms::coordinate_transforms;
+use transforms::gnomonic;
 
 // x and y.
 fn of_face(f: Face) -> Outcome {

@@ -4,7 +4,6 @@
 // malformed.
 use elementary::sine::SinCosAnswer;
 use elementary::sine::SineAnswer;
-use elementary::sine::sin_cos;
 use replay::outcome::Outcome;
 use replay::outcome::one;
 use replay::outcome::refused;
@@ -14,6 +13,7 @@ use replay::record::Next;
 use replay::record::argument;
 use replay::report;
 use replay::tally;
+use sine::sin_cos;
 
 fn of_sine(given: SineAnswer) -> Outcome {
     match given {
@@ -31,12 +31,12 @@ fn outcome(number: u8, words: &[u8; 96]) -> Outcome {
         3 => one(elementary::whole::floor(x)),
         4 => one(elementary::whole::round(x)),
         5 => one(square_root::root::sqrt(x)),
-        6 => of_sine(elementary::sine::sin(x)),
-        7 => of_sine(elementary::sine::cos(x)),
-        8 => of_sine(elementary::sine::tan(x)),
-        9 => one(elementary::arctangent::core(x)),
-        10 => one(elementary::arctangent::atan(x)),
-        11 => one(elementary::arctangent::atan2(x, argument(words, 1))),
+        6 => of_sine(sine::sin(x)),
+        7 => of_sine(sine::cos(x)),
+        8 => of_sine(sine::tan(x)),
+        9 => one(arctangent::core(x)),
+        10 => one(arctangent::atan(x)),
+        11 => one(arctangent::atan2(x, argument(words, 1))),
         12 => match sin_cos(x) {
             SinCosAnswer::Value(both) => two(both.sin, both.cos),
             SinCosAnswer::Outside => refused(19),

@@ -1,5 +1,4 @@
 // Nearest and the functions on rotations and triangles, each at a record's arguments.
-use elementary::sine::is_outside;
 use origin::origin::OriginAnswer;
 use origin::utils::Quat;
 use replay::outcome::Outcome;
@@ -8,6 +7,7 @@ use replay::outcome::refused;
 use replay::outcome::three;
 use replay::outcome::whole;
 use replay::record::argument;
+use sine::is_outside;
 
 // The nearest origin's id, or the refusal.
 pub fn nearest(words: &[u8; 96]) -> Outcome {

@@ -1,7 +1,7 @@
 // How many were compared, and how many differ, by what was called.
-use crate::call::Call;
 use replay::outcome::Outcome;
 use replay::outcome::agree;
+use replay_perform::Call;
 ghost use Prim.Native.Nat.{_<_};
 
 // Where a call is counted: the names stand in this order. A refused one is counted five places on.

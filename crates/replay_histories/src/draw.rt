@@ -1,5 +1,4 @@
 // The next call of a list, from a generator with a fixed seed.
-use crate::call::Call;
 use coordinates::base::Degrees;
 use coordinates::base::Radians;
 use coordinates::coords::Face;
@@ -7,6 +6,7 @@ use coordinates::lonlat::LonLat;
 use coordinates::spherical::Spherical;
 use coordinates::vec2::Vec2;
 use replay::pattern::value;
+use replay_perform::Call;
 use show::StoreKind;
 
 // Marsaglia's xorshift of 64 bits.

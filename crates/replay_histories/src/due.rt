@@ -1,13 +1,13 @@
 // What a call must come to, and what the stores must hold after it: from newly opened sets, and from the stores that
 // gather what was written there. Show and its companion are not asked for this.
-use crate::call::Call;
-use crate::call::perform;
-use crate::call::whole;
 use crate::stores::clear;
 use crate::stores::gather;
 use answer::bits;
 use replay::outcome::Outcome;
 use replay::outcome::refused;
+use replay_perform::Call;
+use replay_perform::perform;
+use replay_perform::whole;
 use set::open::open;
 use set::sizes::FACE_COORDINATES;
 use set::sizes::FACE_SLOTS;

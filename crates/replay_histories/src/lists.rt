@@ -1,11 +1,11 @@
 // Lists of calls on one set, beside a second one that gathers what the calls write on newly opened sets.
-use crate::call::Call;
-use crate::call::perform;
 use crate::counts::count;
 use crate::counts::count_outcome;
 use crate::draw::draw;
 use crate::due::expected;
 use replay::numbers::unlike;
+use replay_perform::Call;
+use replay_perform::perform;
 use set::open::open;
 use set::sizes::FACE_STORE;
 use set::sizes::FRAME;

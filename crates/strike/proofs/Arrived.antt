@@ -15,12 +15,12 @@ use Rattle.set.specs.Open.{openOn}
 use Rattle.stores.specs.Slots.{put}
 use Rattle.strike_records.specs.Line.{LINE}
 use Rattle.strike_records.specs.Writes.{change}
-use Rattle.strike_records.specs.Results.{FeedsBuffer, WritesIfRoom}
-use Rattle.strike_records.specs.Pieces.{Fed, fed, endLine, fitting, leftOver, beginStage}
-use Rattle.strike_records.specs.declared.session.Stage.{Stage}
-use Rattle.strike_records.specs.declared.session.FedBuffer.{FedBuffer}
+use Rattle.strike_session.specs.Results.{FeedsBuffer, WritesIfRoom}
+use Rattle.strike_session.specs.Pieces.{Fed, fed, endLine, fitting, leftOver, beginStage}
+use Rattle.strike_session.specs.declared.session.Stage.{Stage}
+use Rattle.strike_session.specs.declared.session.FedBuffer.{FedBuffer}
 use Rattle.strike_records.proofs.Written.{writes-as}
-use Rattle.strike_records.proofs.Results.{with-room}
+use Rattle.strike_session.proofs.Results.{with-room}
 use Rattle.strike.specs.Steps.{State, Begins, begun, given, next, Read, Ended}
 
 -- the bytes that a read put behind the kept ones

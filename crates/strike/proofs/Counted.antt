@@ -14,11 +14,11 @@ use Rattle.origin.specs.Origins.{ORIGINS}
 use Rattle.strike_records.specs.Line.{LINE, refusalLine}
 use Rattle.strike_records.specs.Record.{headed}
 use Rattle.set.specs.Set.{Set}
-use Rattle.strike_records.specs.Session.{MAX-RECORDS}
-use Rattle.strike_records.specs.Pieces.{Fed, still, answerable, recordsFed, fed, over}
-use Rattle.strike_records.specs.declared.session.Stage.{Stage}
-use Rattle.strike_records.specs.declared.session.Stage.the-variants.{Header, Records, Stopped}
-use Rattle.strike_records.proofs.Cutting.{Settled, settled-next}
+use Rattle.strike_session.specs.Session.{MAX-RECORDS}
+use Rattle.strike_session.specs.Pieces.{Fed, still, answerable, recordsFed, fed, over}
+use Rattle.strike_session.specs.declared.session.Stage.{Stage}
+use Rattle.strike_session.specs.declared.session.Stage.the-variants.{Header, Records, Stopped}
+use Rattle.strike_session.proofs.Cutting.{Settled, settled-next}
 use Rattle.strike.specs.Steps.{State, Begins, next, Stepped, rests, feeds, Read, more}
 
 -- the bytes that a session can still take, those that are kept among them, and one read more for the step that ends it

@@ -9,9 +9,9 @@ use Rattle.arithmetic.specs.Arith.{ieee}
 use Rattle.origin.specs.Origins.{ORIGINS}
 use Rattle.set.specs.Open.{openOn}
 use Rattle.strike_records.specs.Line.{LINE}
-use Rattle.strike_records.specs.Session.{program}
-use Rattle.strike_records.specs.Pieces.{Piece, joined, Roomy, piecewise, beginLine}
-use Rattle.strike_records.proofs.Cutting.{program-in-pieces}
+use Rattle.strike_session.specs.Session.{program}
+use Rattle.strike_session.specs.Pieces.{Piece, joined, Roomy, piecewise, beginLine}
+use Rattle.strike_session.proofs.Cutting.{program-in-pieces}
 use Rattle.strike.specs.Steps.{State, begun, Read, none, more, bytesOf, linesOf, WholeSession}
 
 module _ {X : Type 0} where

@@ -10,10 +10,10 @@ use Rattle.set.specs.Set.{Set}
 use Rattle.set.specs.Open.{openOn}
 use Rattle.stores.specs.Slots.{put}
 use Rattle.strike_records.specs.Line.{LINE}
-use Rattle.strike_records.specs.Session.{program}
-use Rattle.strike_records.specs.Pieces.{Fed, fed, endLine, over, beginStage, beginLine}
-use Rattle.strike_records.specs.declared.session.Stage.{Stage}
-use Rattle.strike_records.specs.declared.session.Stage.the-variants.{Header, Records, Stopped}
+use Rattle.strike_session.specs.Session.{program}
+use Rattle.strike_session.specs.Pieces.{Fed, fed, endLine, over, beginStage, beginLine}
+use Rattle.strike_session.specs.declared.session.Stage.{Stage}
+use Rattle.strike_session.specs.declared.session.Stage.the-variants.{Header, Records, Stopped}
 
 -- where a session stands: its stage, its set, and the bytes that were not taken
 pub record State : Type 0 where

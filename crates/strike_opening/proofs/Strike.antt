@@ -10,7 +10,8 @@ use Rattle.set.specs.Set.{Set}
 use Rattle.histories.specs.Lists.{Call, places, unplaces, step}
 use Rattle.histories.specs.EveryList.{opened, left}
 use Rattle.strike_records.specs.Record.{Request, place, unplace, requestIn}
-use Rattle.strike_records.specs.Session.{lineOf, replyTo, reply, session, program}
+use Rattle.strike_answers.specs.Reply.{lineOf, replyTo, reply}
+use Rattle.strike_session.specs.Session.{session, program}
 use Rattle.opening.specs.Opening.{Without8}
 use Rattle.strike_opening.specs.Strike.{setAfter, Never7Or8}
 use Rattle.opening.proofs.Lists.{run-then}

@@ -1,6 +1,4 @@
--- Laws behind the proofs of the strike program's library.
+-- Laws behind the proofs of the strike program's bytes.
 pub mod Written
-pub mod Lines
-pub mod Cutting
+pub mod Fits
 pub mod Decimal
-pub mod Results

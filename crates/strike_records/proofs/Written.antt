@@ -39,6 +39,11 @@ module _ {A : Type 0} (xs : List A) (at : ℕ) where
 
 -- ---- one run behind the other
 
+-- nothing
+pub writes-none : (xs : List ℕ) → Writes (change xs xs) 0 [] 0
+unfolding put
+writes-none xs = record { end-is = refl; now-is = refl }
+
 -- a byte
 pub writes-byte : (xs : List ℕ) (at v : ℕ) → at < length xs → Writes (change xs (set xs at v)) at (v ∷ []) (at + 1)
 writes-byte xs at v h = record { end-is = refl; now-is = put-sets xs at (v ∷ []) (omega arith) }

@@ -1,7 +1,4 @@
--- Document 01, "The strike program". Definitions only.
+-- Document 01, "The strike program": its bytes. Definitions only.
 pub mod Line
 pub mod Writes
 pub mod Record
-pub mod Session
-pub mod Pieces
-pub mod Results

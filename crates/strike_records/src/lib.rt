@@ -1,6 +1,3 @@
-// The strike program on slices: the header, a record, a line, and a session that takes its input in
-// whatever pieces it arrives (document 01, "The strike program").
-mod answers;
-mod line;
-mod record;
-pub mod session;
+// What the strike program reads and writes, as bytes: the header, a record, a line (document 01, "The strike program").
+pub mod line;
+pub mod record;

@@ -11,7 +11,7 @@ ghost use Rattle.strike_records.specs.Line.{SPACE, LINE, digit as Line·
 ghost use Rattle.strike_records.specs.Writes.{Writes, lentBytes};
 
 // Room for any line.
-pub(crate) const LINE: usize = 40;
+pub const LINE: usize = 40;
 
 // The letter of a digit below 16.
 fn digit(d: u8) -> u8
@@ -78,7 +78,7 @@ fn write_pair(out: &mut [u8], at: usize, x: f64, y: f64) -> usize
 }
 
 // Place's answer: P, the origin's id, x and y.
-pub(crate) fn write_place(out: &mut [u8], at: usize, place: Place) -> usize
+pub fn write_place(out: &mut [u8], at: usize, place: Place) -> usize
     requires { ⌜ at + LINE ≤ length (now out) ⌝ }
     ensures { λ r. ⌜ Writes (lentBytes out) at (placeLine place) r ⌝ }
 {
@@ -88,7 +88,7 @@ pub(crate) fn write_place(out: &mut [u8], at: usize, place: Place) -> usize
 }
 
 // Unplace's answer: U, longitude and latitude.
-pub(crate) fn write_lon_lat(out: &mut [u8], at: usize, lonlat: LonLat) -> usize
+pub fn write_lon_lat(out: &mut [u8], at: usize, lonlat: LonLat) -> usize
     requires { ⌜ at + LINE ≤ length (now out) ⌝ }
     ensures { λ r. ⌜ Writes (lentBytes out) at (lonLatLine lonlat) r ⌝ }
 {
@@ -97,7 +97,7 @@ pub(crate) fn write_lon_lat(out: &mut [u8], at: usize, lonlat: LonLat) -> usize
 }
 
 // A refusal: R and its number.
-pub(crate) fn write_refusal(out: &mut [u8], at: usize, number: u8) -> usize
+pub fn write_refusal(out: &mut [u8], at: usize, number: u8) -> usize
     requires { ⌜ at + LINE ≤ length (now out) ⌝ }
     ensures { λ r. ⌜ Writes (lentBytes out) at (refusalLine number) r ⌝ }
 {

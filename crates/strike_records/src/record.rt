@@ -11,14 +11,14 @@ ghost use Rattle.arithmetic.specs.Arith.{ieee};
 ghost use Rattle.strike_records.specs.Record.{headed, four, fourAt, signed, lonLatIn, faceIn, requestIn, givenRequest};
 
 // What a record asks for: place, or unplace on an origin.
-pub(crate) enum Request {
+pub enum Request {
     Place(LonLat),
     Unplace(Face, u8),
     Refused(Refusal),
 }
 
 // The mark EAD and the version 1.
-pub(crate) fn is_header(input: &[u8]) -> bool
+pub fn is_header(input: &[u8]) -> bool
     requires { ⌜ 5 ≤ length (now input) ⌝ }
     ensures { λ r. ⌜ r ≡ headed (now (input .entry)) ⌝ }
 {
@@ -83,7 +83,8 @@ fn face(bytes: &[u8]) -> Face
     })
 }
 
-pub(crate) fn decode(bytes: &[u8]) -> Request
+// What a record of ten bytes asks for.
+pub fn decode(bytes: &[u8]) -> Request
     requires { ⌜ length (now bytes) ≡ 10 ⌝ }
     ensures { λ r. ⌜ givenRequest r ≡ requestIn ieee (now (bytes .entry)) ⌝ }
 {

@@ -1,10 +1,10 @@
 // The triangle that a point belongs to, and whether it lies beyond the face's edge.
 use coordinates::base::Radians;
 use coordinates::polar::Polar;
-use elementary::sine::cos_inside;
 use elementary::whole::floor;
 use elementary::whole::round;
 use remainder::remainder;
+use sine::cos_inside;
 use square_root::signs::abs;
 use square_root::signs::negative;
 ghost use mathlib.Core.Path.{_≡_};

@@ -2,8 +2,6 @@
 // is built for it.
 use answer::Refusal;
 use coordinates::base::Radians;
-use coordinates::coordinate_transforms::to_cartesian;
-use coordinates::coordinate_transforms::to_polar;
 use coordinates::coords::Cartesian;
 use coordinates::coords::Face;
 use coordinates::coords::FaceTriangle;
@@ -11,7 +9,6 @@ use coordinates::coords::SphericalTriangle;
 use coordinates::polar::Polar;
 use coordinates::vec2::Vec2;
 use coordinates::vec3::Vec3;
-use coordinates::vector::cross;
 use crs::frame::VertexAnswer;
 use origin::quaternion::transform_quat;
 use origin::utils::Origin;
@@ -19,6 +16,9 @@ use set::sizes::FACE_WIDTH;
 use set::sizes::SPHERE_CROSS;
 use set::sizes::SPHERE_WIDTH;
 use stores::slots::is_filled;
+use transforms::coordinate_transforms::to_cartesian;
+use transforms::coordinate_transforms::to_polar;
+use vector::cross;
 ghost use mathlib.Core.Path.{_≡_};
 ghost use mathlib.Core.Bool.{false};
 ghost use Prim.Native.Nat.{_<_};
@@ -118,7 +118,7 @@ fn corner_vertex(frame: &[f64], origin: Origin, corner: Face) -> VertexAnswer
         rho: polar.rho,
         gamma: Radians(polar.gamma.0 + origin.angle.0),
     };
-    let rotated = to_cartesian(coordinates::gnomonic::inverse(rotated_polar));
+    let rotated = to_cartesian(transforms::gnomonic::inverse(rotated_polar));
     let quat = origin.quat;
     crs::frame::get_vertex(frame, transform_quat(rotated, quat))
 }

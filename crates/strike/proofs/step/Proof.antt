@@ -8,7 +8,7 @@ use native.Mathlib.Omega.{arith}
 use lib.ListN.{length}
 use lib.Seq.{length-take-le}
 use Rattle.set.specs.Set.{setOf}
-use Rattle.strike_records.specs.Pieces.{over}
+use Rattle.strike_session.specs.Pieces.{over}
 use Rattle.strike.specs.Steps.{rests, feeds}
 use Rattle.strike.proofs.Arrived.{arrived, arrived-length, next-is, lines-are}
 use Rattle.strike.proofs.step.Statement.{statement}

@@ -1,9 +1,0 @@
--- `vector::cross` meets its contract. Assumes nothing.
-use mathlib.Core.Path.{refl}
-use Rattle.coordinates.specs.Vector.{cross}
-use Rattle.coordinates.proofs.vector.cross.Statement.{statement}
-use Rattle.coordinates.proofs.vector.cross.Tie as tie
-
-pub cross-spec : {M : Type 1} → statement M
-unfolding cross
-cross-spec = tie.close (tie.spec (λ c. refl))

@@ -1,9 +1,0 @@
--- `vector::dot` meets its contract. Assumes nothing.
-use mathlib.Core.Path.{refl}
-use Rattle.coordinates.specs.Vector.{dot}
-use Rattle.coordinates.proofs.vector.dot.Statement.{statement}
-use Rattle.coordinates.proofs.vector.dot.Tie as tie
-
-pub dot-spec : {M : Type 1} → statement M
-unfolding dot
-dot-spec = tie.close (tie.spec (λ c. refl))

@@ -1,8 +1,0 @@
--- `vector::length` meets its contract. Assumes nothing.
-use Rattle.coordinates.specs.Vector.{length}
-use Rattle.coordinates.proofs.vector.length.Statement.{statement}
-use Rattle.coordinates.proofs.vector.length.Tie as tie
-
-pub length-spec : {M : Type 1} → statement M
-unfolding length
-length-spec = tie.close (tie.spec (λ c κs. tt) (λ c. rw (c .sqrt .ensures)))

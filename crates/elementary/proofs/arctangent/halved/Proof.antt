@@ -1,9 +1,0 @@
--- `halved` meets its contract. Assumes nothing.
-use lib.Ieee.{ofBits}
-use Rattle.elementary.specs.Arctangent.{halved}
-use Rattle.elementary.proofs.arctangent.halved.Statement.{statement}
-use Rattle.elementary.proofs.arctangent.halved.Tie as tie
-
-pub halved-spec : {M : Type 1} → statement M
-unfolding halved ofBits
-halved-spec = tie.close (tie.spec (λ c κs. tt) (λ c. rw (c .sqrt .ensures)))

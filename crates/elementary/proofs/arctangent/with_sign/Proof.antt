@@ -1,8 +1,0 @@
--- `with_sign` meets its contract. Assumes nothing.
-use Rattle.square_root.specs.Signs.{withSign}
-use Rattle.elementary.proofs.arctangent.with_sign.Statement.{statement}
-use Rattle.elementary.proofs.arctangent.with_sign.Tie as tie
-
-pub with-sign-spec : {M : Type 1} → statement M
-unfolding withSign
-with-sign-spec = tie.close (tie.spec (λ c. rw (c .if1 .taken)) (λ c. rw (c .if1 .left)))

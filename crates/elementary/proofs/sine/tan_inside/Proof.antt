@@ -1,8 +1,0 @@
--- `tan_inside` meets its contract. Assumes nothing.
-use Rattle.elementary.specs.Sine.{tan}
-use Rattle.elementary.proofs.sine.tan_inside.Statement.{statement}
-use Rattle.elementary.proofs.sine.tan_inside.Tie as tie
-
-pub tan-inside-spec : {M : Type 1} → statement M
-unfolding tan
-tan-inside-spec = tie.close (tie.spec (λ c κs. c .pre) (λ c. rw (c .before .sin-cos-inside .ensures)))

@@ -1,0 +1,119 @@
+// A call that is lent the set, with its other arguments, and what it comes to on a set.
+use answer::bits;
+use coordinates::conversions::FaceAnswer;
+use coordinates::conversions::LonLatAnswer;
+use coordinates::conversions::SphericalAnswer;
+use coordinates::coords::Face;
+use coordinates::lonlat::LonLat;
+use coordinates::spherical::Spherical;
+use dodecahedron::calls::forward;
+use dodecahedron::calls::inverse;
+use dodecahedron::calls::place;
+use dodecahedron::calls::unplace;
+use dodecahedron::place::PlaceAnswer;
+use replay::outcome::Outcome;
+use replay::outcome::refused;
+use replay::outcome::two;
+use set::open::OpenAnswer;
+use set::open::open;
+use show::SlotState;
+use show::StoreKind;
+use show::show;
+use show::slot_state;
+ghost use Rattle.set.specs.Outcome.{lent, Becomes};
+ghost use Rattle.histories.specs.Lists.{step};
+ghost use Rattle.replay_perform.specs.Performed.{callOf};
+
+pub enum Call {
+    Open,
+    Forward(Spherical, u8),
+    Inverse(Face, u8),
+    Place(LonLat),
+    Unplace(Face, u8),
+    Show(StoreKind, usize),
+    Ask(StoreKind, usize),
+}
+
+// Answered with up to three whole numbers.
+pub fn whole(count: u8, first: u64, second: u64, third: u64) -> Outcome {
+    Outcome {
+        status: 0,
+        count: count,
+        first: first,
+        second: second,
+        third: third,
+    }
+}
+
+fn of_open(answer: OpenAnswer) -> Outcome {
+    match answer {
+        OpenAnswer::Opened => refused(0),
+        OpenAnswer::Refused(n) => refused(answer::number(n)),
+    }
+}
+
+fn of_face(answer: FaceAnswer) -> Outcome {
+    match answer {
+        FaceAnswer::Answered(p) => two(p.0.x, p.0.y),
+        FaceAnswer::Refused(n) => refused(answer::number(n)),
+    }
+}
+
+fn of_spherical(answer: SphericalAnswer) -> Outcome {
+    match answer {
+        SphericalAnswer::Answered(p) => two(p.theta.0, p.phi.0),
+        SphericalAnswer::Refused(n) => refused(answer::number(n)),
+    }
+}
+
+fn of_place(answer: PlaceAnswer) -> Outcome {
+    match answer {
+        PlaceAnswer::Answered(p) => whole(3, p.origin as u64, bits(p.face.0.x), bits(p.face.0.y)),
+        PlaceAnswer::Refused(n) => refused(answer::number(n)),
+    }
+}
+
+fn of_lon_lat(answer: LonLatAnswer) -> Outcome {
+    match answer {
+        LonLatAnswer::Answered(p) => two(p.longitude.0, p.latitude.0),
+        LonLatAnswer::Refused(n) => refused(answer::number(n)),
+    }
+}
+
+// How many coordinates a part has, and the first and the last of them.
+fn of_part(part: &[f64]) -> Outcome {
+    let n = part.len();
+    if n == 0 {
+        return whole(1, 0, 0, 0);
+    }
+    whole(3, n as u64, bits(part[0]), bits(part[n - 1]))
+}
+
+// 1 for filled, 0 for empty.
+fn of_state(state: SlotState) -> Outcome {
+    match state {
+        SlotState::Filled => whole(1, 1, 0, 0),
+        SlotState::Empty => whole(1, 0, 0, 0),
+        SlotState::Refused(n) => refused(answer::number(n)),
+    }
+}
+
+// The call on a set. It leaves the set as the theorem about every list has it.
+pub fn perform(
+    frame: &mut [f64],
+    face_store: &mut [f64],
+    sphere_store: &mut [f64],
+    call: Call,
+) -> Outcome
+    ensures { λ _. ⌜ Becomes (lent frame «face_store» «sphere_store») (λ s. step s (callOf call)) ⌝ }
+{
+    match call {
+        Call::Open => of_open(open(frame, face_store, sphere_store)),
+        Call::Forward(p, o) => of_face(forward(frame, face_store, sphere_store, p, o)),
+        Call::Inverse(f, o) => of_spherical(inverse(frame, face_store, sphere_store, f, o)),
+        Call::Place(p) => of_place(place(frame, face_store, sphere_store, p)),
+        Call::Unplace(f, o) => of_lon_lat(unplace(frame, face_store, sphere_store, f, o)),
+        Call::Show(kind, slot) => of_part(show(face_store, sphere_store, kind, slot)),
+        Call::Ask(kind, slot) => of_state(slot_state(face_store, sphere_store, kind, slot)),
+    }
+}

@@ -1,0 +1,8 @@
+-- `coordinate_transforms::normalize_longitude` meets its contract. Assumes nothing.
+use Rattle.coordinates.specs.CoordinateTransforms.{normalizeLongitude}
+use Rattle.transforms.proofs.coordinate_transforms.normalize_longitude.Statement.{statement}
+use Rattle.transforms.proofs.coordinate_transforms.normalize_longitude.Tie as tie
+
+pub normalize-longitude-spec : {M : Type 1} → statement M
+unfolding normalizeLongitude
+normalize-longitude-spec = tie.close (tie.spec (λ c κs. tt) (λ c κs. tt) (λ c. rw (c .remainder2 .ensures, c .before .remainder .ensures)))

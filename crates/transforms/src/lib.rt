@@ -1,0 +1,5 @@
+// The changes between coordinate systems, with the Rust's module names, and the two conversions between
+// longitude/latitude and the sphere as calls.
+pub mod conversions;
+pub mod coordinate_transforms;
+pub mod gnomonic;
