@@ -1,7 +1,7 @@
--- A comparison without a branch: of two numbers below 2 ^ 63 the sign bit of the wrapped difference says which is the larger, and 0 or 1
--- taken off 0 or 1 makes a mask of zeros or ones. Assumes nothing.
+-- A comparison without a branch: of two numbers below 2 ^ 63 the sign bit of the wrapped difference says which is the larger, and taken off 0
+-- it makes a mask of zeros or ones. Assumes nothing.
 use mathlib.Core.Path.{_≡_, ap, _∙_}
-use Prim.Native.Nat.{ℕ, _+_, _-_, _/_, _%_, _^_, _≤_, _<_}
+use Prim.Native.Nat.{ℕ, _+_, _-_, _*_, _/_, _%_, _^_, _≤_, _<_}
 use native.Mathlib.Nat.{mod-eq-of-lt}
 use native.Mathlib.Omega.{arith}
 use mathlib.Core.Bool.{Bool, true, false, not, cond}
@@ -30,22 +30,17 @@ module _ (y t d : ℕ) (Y : y < 2 ^ 63) (K : t < 2 ^ 63) (D : d < 2 ^ 64) (e : (
   set : y < t → d / 2 ^ 63 ≡ 1
   set g = omega arith
 
-  -- t is added back where it is above y
-  pub added-back : (s r : ℕ) → s < 2 ^ 64 → (s + d / 2 ^ 63) % 2 ^ 64 ≡ 0 → r ≡ (d + bitAnd t s) % 2 ^ 64 → r ≡ cond (leb t y) (y - t) y
-  added-back s r S m h =
-      by-test t y (y - t) y r
-      (λ g. h ∙ ap (λ (x : ℕ). (d + x) % 2 ^ 64) (none t s (omega (arith, clear g .1))) ∙ omega (arith, clear g .0))
-      (λ g. h ∙ ap (λ (x : ℕ). (d + x) % 2 ^ 64) (all t s (omega arith) (omega (arith, set g))) ∙ e)
+  -- t is added back where it is above y, and the sum doubled
+  pub added-back : (s p r : ℕ) → s < 2 ^ 64 → (s + d / 2 ^ 63) % 2 ^ 64 ≡ 0 → p ≡ (d + bitAnd t s) % 2 ^ 64 → r ≡ (p + p) % 2 ^ 64
+      → r ≡ 2 * cond (leb t y) (y - t) y
+  added-back s p r S m h k = doubled (leb t y) sum
+    where
+      sum : p ≡ cond (leb t y) (y - t) y
+      sum =
+          by-test t y (y - t) y p
+          (λ g. h ∙ ap (λ (x : ℕ). (d + x) % 2 ^ 64) (none t s (omega (arith, clear g .1))) ∙ omega (arith, clear g .0))
+          (λ g. h ∙ ap (λ (x : ℕ). (d + x) % 2 ^ 64) (all t s (omega arith) (omega (arith, set g))) ∙ e)
 
-  -- v is kept where t is at most y
-  pub kept : (s v : ℕ) → s < 2 ^ 64 → v < 2 ^ 64 → (s + 1) % 2 ^ 64 ≡ d / 2 ^ 63 → bitAnd v s ≡ cond (leb t y) v 0
-  kept s v S l m = by-test t y v 0 (bitAnd v s) (λ g. all v s l (omega (arith, clear g .1))) (λ g. none v s (omega (arith, set g)))
-
--- the two are at most r and y
-pub kept-le : (b : Bool) (r s : ℕ) → s ≡ cond b r 0 → s ≤ r
-kept-le true r s e = omega arith
-kept-le false r s e = omega arith
-
-pub reduced-le : (b : Bool) (y t d : ℕ) → d ≡ cond b (y - t) y → d ≤ y
-reduced-le true y t d e = omega arith
-reduced-le false y t d e = omega arith
+      doubled : (b : Bool) → p ≡ cond b (y - t) y → r ≡ 2 * cond b (y - t) y
+      doubled true q = omega arith
+      doubled false q = omega arith

@@ -18,7 +18,7 @@ use Rattle.arithmetic.proofs.Powers.{size-is}
 use Rattle.arithmetic.proofs.Root.{Floor, lt-of-squares, floor-unique, rounds-up, rounds-down}
 use Rattle.arithmetic.proofs.Rounds.{exact-floor, square-rounds, no-square-rounds}
 use Rattle.arithmetic.proofs.Width.{Wide, scaled}
-use Rattle.square_root.specs.Root.{Found, Ended}
+use Rattle.square_root.specs.Root.{Marked, Found, Ended}
 
 -- ---- before the first round
 
@@ -136,9 +136,16 @@ module _ (n t y r k : ℕ) (f : Found n t y r k) where
     t-twice : t ≡ 4 * q + 2 * r
     t-twice = omega (arith, f .t-is, halves .twice)
 
-    round : (b : Bool) → (T b → t ≤ y) → (T (not b) → y < t) → (s d : ℕ) → s ≡ cond b (4 * r) 0 → d ≡ cond b (y - t) y
-        → Found n (t - r + s) (2 * d) (r / 2) (k + 1)
-    round true h g s d i j = record {
+    -- any digits, then 010, in units of r
+    pub marked : Marked t r
+    marked = record { a = c; i = 53 - (k + 1); r-is = halves .next; t-is = t-twice ∙ in-units c digits }
+      where
+        in-units : (c : ℕ) → q ≡ c * (2 * r) → 4 * q + 2 * r ≡ (8 * c + 2) * r
+        in-units c e = omega arith
+
+    round : (b : Bool) → (T b → t ≤ y) → (T (not b) → y < t) → (v z : ℕ) → v ≡ cond b (t + 3 * r) (t - r) → z ≡ 2 * cond b (y - t) y
+        → Found n v z (r / 2) (k + 1)
+    round true h g v z i j = record {
       q = q + r;
       w = r;
       few = omega (arith, rounds-lt);
@@ -146,18 +153,21 @@ module _ (n t y r k : ℕ) (f : Found n t y r k) where
       c = 2 * c + 1;
       c-is = one-more c digits;
       t-is = omega (arith, t-twice);
-      y-is = one-square n q d r (subst (λ (z : ℕ). 4 * (q * q) + z * (2 * r) ≡ 4 * n) (omega (arith, t-twice, h tt)) square);
+      y-is = subst (λ (x : ℕ). 4 * ((q + r) * (q + r)) + x * r ≡ 4 * n) (sym j) (one-square n q (y - t) r kept);
       r-is = refl;
       above = one-above n q r above;
-      last = λ z. odd c;
+      last = λ e. odd c;
     }
       where
+        kept : 4 * (q * q) + (y - t + (4 * q + 2 * r)) * (2 * r) ≡ 4 * n
+        kept = subst (λ (x : ℕ). 4 * (q * q) + x * (2 * r) ≡ 4 * n) (omega (arith, t-twice, h tt)) square
+
         one-more : (c : ℕ) → q ≡ c * (2 * r) → q + r ≡ (2 * c + 1) * r
         one-more c e = omega arith
 
         odd : (c : ℕ) → (2 * c + 1) % 2 ≡ 1
         odd c = omega arith
-    round false h g s d i j = record {
+    round false h g v z i j = record {
       q = q;
       w = r;
       few = omega (arith, rounds-lt);
@@ -165,16 +175,16 @@ module _ (n t y r k : ℕ) (f : Found n t y r k) where
       c = 2 * c;
       c-is = as-many c digits;
       t-is = omega (arith, t-twice);
-      y-is = subst (λ (z : ℕ). 4 * (q * q) + 2 * z * r ≡ 4 * n) (sym j) (zero-square n q y r square);
+      y-is = subst (λ (x : ℕ). 4 * (q * q) + x * r ≡ 4 * n) (sym j) (zero-square n q y r square);
       r-is = refl;
       above = zero-above n q y r square (omega (arith, t-twice, g tt)) more;
-      last = λ z. absurd (omega arith);
+      last = λ e. absurd (omega arith);
     }
       where
         as-many : (c : ℕ) → q ≡ c * (2 * r) → q ≡ 2 * c * r
         as-many c e = omega arith
 
-    pub next : (s d : ℕ) → s ≡ cond (leb t y) (4 * r) 0 → d ≡ cond (leb t y) (y - t) y → Found n (t - r + s) (2 * d) (r / 2) (k + 1)
+    pub next : (v z : ℕ) → v ≡ cond (leb t y) (t + 3 * r) (t - r) → z ≡ 2 * cond (leb t y) (y - t) y → Found n v z (r / 2) (k + 1)
     next = round (leb t y) (leb→le t y) (nleb→lt t y)
 
   -- ---- the end: the digits, and the nearest root

@@ -4,6 +4,7 @@ use mathlib.Core.Path.{_≡_}
 use mathlib.Core.Logic.{_⊎_}
 use mathlib.Core.Bool.{false}
 use Prim.Native.Nat.{ℕ, _+_, _-_, _*_, _/_, _%_, _^_, _≤_, _<_}
+use lib.Bits.{bitAnd}
 use lib.Ieee.{Float, binary64, ofBits}
 use lib.Ieee.Exact.{HasValue}
 use lib.Ieee.Positive.{positive}
@@ -27,6 +28,13 @@ pub record Radicand (x : Float) (m e : ℕ) : Type 0 where
   pub m-is : m ≡ a * 2 ^ (g % 2)
   pub e-is : e ≡ g / 2
 
+-- t in units of r, a power of two: any digits, then 010
+pub record Marked (t r : ℕ) : Type 0 where
+  pub a : ℕ
+  pub i : ℕ
+  pub r-is : r ≡ 2 ^ i
+  pub t-is : t ≡ (8 * a + 2) * r
+
 -- The words after k rounds for n, a number of 105 or 106 digits. q is the k digits found, zeros after them, and w the weight of the last.
 pub record Found (n t y r k : ℕ) : Type 0 where
   pub q : ℕ
@@ -49,10 +57,11 @@ pub record Found (n t y r k : ℕ) : Type 0 where
 abbrev pub Ended : ℕ → ℕ → ℕ → ℕ → ℕ → Type 0
 Ended n t y r k = Found n t y r k × ((r ≡ 0) ⊎ (y ≡ 0))
 
--- the digits of two numbers' roots after as many rounds of each: no digit is left to find, or nothing of one of the numbers
+-- the digits of two numbers' roots after as many rounds of each: no digit is left to find, or what is left of the two numbers has no digit
+-- in common, as where nothing is left of one
 abbrev pub FoundBoth : ℕ → ℕ → Two → Type 0
 FoundBoth m n d =
     Found m (d .first .t) (d .first .y) (d .first .r) (d .first .rounds)
     × Found n (d .second .t) (d .second .y) (d .second .r) (d .second .rounds)
     × (d .second .rounds ≡ d .first .rounds)
-    × ((d .first .r ≡ 0) ⊎ ((d .first .y ≡ 0) ⊎ (d .second .y ≡ 0)))
+    × ((d .first .r ≡ 0) ⊎ (bitAnd (d .first .y) (d .second .y) ≡ 0))

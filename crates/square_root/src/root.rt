@@ -2,13 +2,13 @@
 // those found are the exact root (Paper 2). The rounds run are a call of their own.
 ghost use mathlib.Core.Path.{_≡_};
 ghost use mathlib.Core.Bool.{false, cond};
-ghost use Prim.Native.Nat.{_-_, _*_, _^_, _≤_, _<_};
+ghost use Prim.Native.Nat.{_+_, _-_, _*_, _^_, _≤_, _<_};
 ghost use lib.Dec.{leb};
 ghost use lib.Ieee.{binary64, ofBits};
 ghost use lib.Ieee.Positive.{positive};
 ghost use Rattle.arithmetic.specs.Rounds.{sqrtRounds};
 ghost use Rattle.arithmetic.specs.Sqrt.{nearestRoot, sqrt};
-ghost use Rattle.square_root.specs.Root.{Pattern, Radicand, Found, Ended, FoundBoth};
+ghost use Rattle.square_root.specs.Root.{Pattern, Radicand, Marked, Found, Ended, FoundBoth};
 
 // x's pattern where x is finite and above zero, else 0.
 fn pattern(x: f64) -> u64
@@ -63,22 +63,26 @@ fn full_width(b: u64) -> Number
     }
 }
 
-// y - t, or y where t is above it. The sign bit of the difference makes a mask: no branch.
-fn reduced(y: u64, t: u64) -> u64
+// y for the next digit: twice y - t, or twice y where t is above it. The sign bit of the difference makes a mask: no branch. The
+// doubling is a sum that could wrap for all that the compiler knows, so that the loop's test of y is made by the sum itself.
+fn rest(y: u64, t: u64) -> u64
     requires { ⌜ (y < 2 ^ 63) × (t < 2 ^ 63) ⌝ }
-    ensures { λ r. ⌜ r ≡ cond (leb t y) (y - t) y ⌝ }
+    ensures { λ r. ⌜ r ≡ 2 * cond (leb t y) (y - t) y ⌝ }
 {
     let d = std::num::wrapping_sub_u64(y, t);
-    std::num::wrapping_add_u64(d, t & std::num::wrapping_sub_u64(0, d >> 63))
+    let left = std::num::wrapping_add_u64(d, t & std::num::wrapping_sub_u64(0, d >> 63));
+    std::num::wrapping_add_u64(left, left)
 }
 
-// r, or 0 where t is above y: no branch.
-fn digit(y: u64, t: u64, r: u64) -> u64
-    requires { ⌜ (y < 2 ^ 63) × (t < 2 ^ 63) ⌝ }
-    ensures { λ v. ⌜ v ≡ cond (leb t y) r 0 ⌝ }
+// t for the next digit, whose weight is r / 2: t + 3 * r where the digit of weight r is 1, else t - r. The latter is t with the
+// digits of 2 * r and r changed, and written so: as a difference the two would be made one sum of t and a chosen number, which
+// waits for the choice. Here both are ready before it.
+fn following(y: u64, t: u64, r: u64) -> u64
+    requires { ⌜ (t < 2 ^ 62) × Marked t r ⌝ }
+    ensures { λ v. ⌜ v ≡ cond (leb t y) (t + 3 * r) (t - r) ⌝ }
 {
-    let d = std::num::wrapping_sub_u64(y, t);
-    r & std::num::wrapping_sub_u64(d >> 63, 1)
+    let c = 3 * r;
+    if y < t { t ^ c } else { t + c }
 }
 
 // The digits of the root of m * 2^52 so far. With q for the digits found, zeros after them, and w for the weight of the last,
@@ -114,10 +118,10 @@ fn digits_from(m: u64, found: Digits) -> Digits
     let mut y = found.y;
     let mut r = found.r;
     let mut rounds = found.rounds;
-    while r > 0 && y > 0 {
-        let s = digit(y, t, 4 * r);
-        y = 2 * reduced(y, t);
-        t = t - r + s;
+    while y > 0 && r > 0 {
+        let left = rest(y, t);
+        t = following(y, t, r);
+        y = left;
         r = r / 2;
         rounds = rounds + 1;
     }
@@ -131,7 +135,8 @@ struct Two {
 }
 
 // One digit of each a round, until none is left or those found of one are the exact root: the two wait for each other's words
-// nowhere, so that the processor works on both at once. The words are t and y for the first, u and z for the second.
+// nowhere, so that the processor works on both at once. The words are t and y for the first, u and z for the second. One test
+// sees whether nothing is left of either; it leaves the loop too where y and z are above 0 and have no digit in common.
 fn digits_of_both(m: u64, n: u64) -> Two
     requires { ⌜ (2 ^ 52 ≤ m) × (m < 2 ^ 54) × (2 ^ 52 ≤ n) × (n < 2 ^ 54) ⌝ }
     ensures { λ d. ⌜ FoundBoth (m * 2 ^ 52) (n * 2 ^ 52) d ⌝ }
@@ -142,13 +147,13 @@ fn digits_of_both(m: u64, n: u64) -> Two
     let mut z = 2 * n;
     let mut r: u64 = 0x10_0000_0000_0000;
     let mut rounds: u32 = 0;
-    while r > 0 && y > 0 && z > 0 {
-        let s = digit(y, t, 4 * r);
-        y = 2 * reduced(y, t);
-        t = t - r + s;
-        let v = digit(z, u, 4 * r);
-        z = 2 * reduced(z, u);
-        u = u - r + v;
+    while r > 0 && y & z > 0 {
+        let left = rest(y, t);
+        t = following(y, t, r);
+        y = left;
+        let left = rest(z, u);
+        u = following(z, u, r);
+        z = left;
         r = r / 2;
         rounds = rounds + 1;
     }
@@ -254,9 +259,8 @@ pub fn sqrt_both(x: f64, y: f64) -> Roots
     let first = found.first;
     let second = found.second;
     let d = digits_from(n.m, first);
+    let first = root_value(b, n, d);
     let e = digits_from(k.m, second);
-    Roots {
-        first: root_value(b, n, d),
-        second: root_value(c, k, e),
-    }
+    let second = root_value(c, k, e);
+    Roots { first, second }
 }

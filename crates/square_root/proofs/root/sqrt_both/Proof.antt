@@ -65,32 +65,33 @@ digits-from-requires c κs =
     let found = c .before .before in
     (m-hi (found .before), found .digits-of-both .ensures .0)
 
-digits-from-requires-2 : tie.Need-digits-from-requires-2
-digits-from-requires-2 c κs =
-    let named = c .before in
-    let found = named .before .before in
-    (k-hi (found .before), found .digits-of-both .ensures .1)
+root-value-requires : tie.Need-root-value-requires
+root-value-requires c κs = let found = c .before .before .before in (found .before .before .full-width .ensures, c .digits-from .ensures)
 
--- the numbers, from where all digits are found
-abbrev numbers : tie.After-digits-from2 → tie.After-full-width2
+-- the numbers, from where the first root is made
+abbrev numbers : tie.After-root-value → tie.After-full-width2
 numbers c =
     let named = c .before .before in
     let found = named .before .before in
     found .before
 
-root-value-requires : tie.Need-root-value-requires
-root-value-requires c κs = (numbers c .before .full-width .ensures, c .before .digits-from .ensures)
+digits-from-requires-2 : tie.Need-digits-from-requires-2
+digits-from-requires-2 c κs =
+    let named = c .before .before in
+    let found = named .before .before in
+    (k-hi (numbers c), found .digits-of-both .ensures .1)
 
 root-value-requires-2 : tie.Need-root-value-requires-2
-root-value-requires-2 c κs = (numbers (c .before) .full-width2 .ensures, c .before .digits-from2 .ensures)
+root-value-requires-2 c κs = (numbers (c .before) .full-width2 .ensures, c .digits-from2 .ensures)
 
 returns : tie.Need-returns
 returns c = (c .before .sqrt .ensures, c .sqrt2 .ensures)
 
 returns-2 : tie.Need-returns-2
 returns-2 c =
-    let both = tested (numbers (c .before .before)) in (
-      c .before .root-value .ensures ∙ ap sqrt (patterns both .before .pattern .ensures .is (first-above both)),
+    let made = c .before .before in
+    let both = tested (numbers made) in (
+      made .root-value .ensures ∙ ap sqrt (patterns both .before .pattern .ensures .is (first-above both)),
       c .root-value2 .ensures ∙ ap sqrt (patterns both .pattern2 .ensures .is (second-above both)),
     )
 
@@ -107,7 +108,7 @@ sqrt-both-spec =
     full-width-requires-2
     digits-of-both-requires
     digits-from-requires
-    digits-from-requires-2
     root-value-requires
+    digits-from-requires-2
     root-value-requires-2
     returns-2)
