@@ -5,7 +5,7 @@
  *
  * A call that can be refused returns A5_ANSWERED (0), or the number of its refusal. a5_box_new, a5_window_new and
  * a5_window_counts are never refused and return nothing; a5_window_kept, a5_sqrt and a5_sqrt_rounds return their number.
- * An answer goes to the memory that is lent for it (to, id, filled, part, box, grants, window, counts, page). A refused
+ * An answer goes to the memory that is lent for it (to, id, filled, part, box, grants, window, counts, page, table, bytes). A refused
  * call leaves everything lent as it was, bit for bit. Any number may be passed: what is outside the limits is refused,
  * and every call ends.
  *
@@ -18,7 +18,7 @@
  * What the caller owes, since no function can check it:
  * - a pointer is not null, not even with length 0, and is aligned for what it points to;
  * - as many numbers stand there as the length says (two behind `to` and `part`, one behind `id` and `filled`, twelve
- *   behind `counts`);
+ *   behind `counts`, 84 behind a5_table_load's `table`);
  * - a box's `empty` is true or false, one of C's two bool values;
  * - no two things that are lent to one call overlap;
  * - a set is not used by two threads at once, unless both only show. Two sets are independent;
@@ -68,7 +68,8 @@ extern "C" {
 #define A5_KIND_SPHERE 1
 
 /* What a call returns. Where several refusals apply, the one with the lowest number is given, except that each number
- * passed is tried for 5 and then 6 before the next one, and 19 is tried after 8 and before 9. */
+ * passed is tried for 5 and then 6 before the next one, and 19 is tried after 8 and before 9. A call with a table tries 20
+ * first of all, and 21 and 22 right after 3. */
 enum a5_status {
     A5_ANSWERED = 0,
     A5_REFUSED_FRAME_LENGTH = 1,        /* the frame isn't A5_FRAME long */
@@ -78,7 +79,7 @@ enum a5_status {
     A5_REFUSED_NOT_FINITE = 5,          /* a number passed is infinite or NaN */
     A5_REFUSED_OUT_OF_RANGE = 6,        /* a number passed is outside its range */
     A5_REFUSED_FRAME_ROWS = 7,          /* open's frame hasn't 62 rows: never with the built-in table, as is proved */
-    A5_REFUSED_NO_VERTEX = 8,           /* a triangle that must be built has no frame vertex: not an opened set */
+    A5_REFUSED_NO_VERTEX = 8,           /* a triangle that must be built has no frame vertex: not an opened set, or not such a table */
     A5_REFUSED_ANSWER_NOT_FINITE = 9,   /* the answer would have a number that isn't finite */
     A5_REFUSED_UNKNOWN_SLOT = 10,       /* no such slot: 30 or more (face), 240 or more (sphere) */
     /* These three are the strike program's. No function here returns them. */
@@ -90,6 +91,10 @@ enum a5_status {
     A5_REFUSED_WINDOW_FULL = 18,    /* 4,096 strikes remain after the drop */
     /* Inverse and unplace: a point too far off the face. */
     A5_REFUSED_ANGLE_OUTSIDE = 19, /* no corner is returned, and the angle from the area share is finite and beyond +-64 */
+    /* A table's and its file's. */
+    A5_REFUSED_TABLE_FILE = 20,       /* a table isn't 84 numbers long; a file's length, mark or version is wrong */
+    A5_REFUSED_TABLE_NUMBER = 21,     /* a number of a table isn't finite or is outside its range */
+    A5_REFUSED_TABLE_QUATERNION = 22, /* a row's quaternion is off unit length by more than 1e-12 */
     /* Fair turns. */
     A5_REFUSED_WISH_COUNT = 24,  /* not exactly 16 wishes */
     A5_REFUSED_GRANT_COUNT = 25, /* not exactly 16 places for grants */
@@ -143,6 +148,50 @@ uint8_t a5_from_lon_lat(double longitude, double latitude, double to[2]);
 /* From theta and phi on the authalic sphere, in radians (-8 to 8), to longitude and latitude, in degrees: to[0] is the
  * longitude and to[1] the latitude. Refusals: 5, 6, 9. */
 uint8_t a5_to_lon_lat(double theta, double phi, double to[2]);
+
+/* A table of twelve origins, for a dodecahedron that is turned: a row of seven numbers an origin, in the order of their
+ * numbers: axis theta, axis phi, quaternion x, y, z, w, angle. Theta, phi and angle lie in -8 to 8 and quaternion numbers in
+ * -1 to 1; the sum of a quaternion's squares is within 1e-12 of 1. A set is opened with a table, and the calls on it are then
+ * handed that same table. Each call below is the one without a table, with the origins of the table in place of the
+ * built-in ones; a5_open, a5_forward and so on are the same calls with the built-in table. */
+#define A5_TABLE (A5_ORIGINS * 7)
+
+/* Open with a table. Refusals: 20, 1, 2, 3, 21, 22, 7. */
+uint8_t a5_open_with(const double *table, size_t table_length, double *frame, size_t frame_length, double *face,
+                     size_t face_length, double *sphere, size_t sphere_length);
+
+/* Forward with a table. Refusals: 20, 1, 2, 3, 21, 22, 4, 5, 6, 8, 9. */
+uint8_t a5_forward_with(const double *table, size_t table_length, const double *frame, size_t frame_length, double *face,
+                        size_t face_length, double *sphere, size_t sphere_length, double theta, double phi,
+                        uint8_t origin, double to[2]);
+
+/* Inverse with a table. Refusals: 20, 1, 2, 3, 21, 22, 4, 5, 6, 8, 19, 9. */
+uint8_t a5_inverse_with(const double *table, size_t table_length, const double *frame, size_t frame_length, double *face,
+                        size_t face_length, double *sphere, size_t sphere_length, double x, double y, uint8_t origin,
+                        double to[2]);
+
+/* Place with a table. Refusals: 20, 1, 2, 3, 21, 22, 5, 6, 8, 9. */
+uint8_t a5_place_with(const double *table, size_t table_length, const double *frame, size_t frame_length, double *face,
+                      size_t face_length, double *sphere, size_t sphere_length, double longitude, double latitude,
+                      uint8_t *id, double to[2]);
+
+/* Unplace with a table. Refusals: 20, 1, 2, 3, 21, 22, 4, 5, 6, 8, 19, 9. */
+uint8_t a5_unplace_with(const double *table, size_t table_length, const double *frame, size_t frame_length, double *face,
+                        size_t face_length, double *sphere, size_t sphere_length, double x, double y, uint8_t origin,
+                        double to[2]);
+
+/* Nearest with a table. Refusals: 20, 21, 22, 5, 6. */
+uint8_t a5_nearest_with(const double *table, size_t table_length, double theta, double phi, uint8_t *id);
+
+/* How many bytes a table file has: the mark EAT, the 16-bit version 1 and the 84 numbers, big-endian. */
+#define A5_TABLE_FILE 677
+
+/* Reads a table file: its numbers go to table. Refusals: 20, 21, 22; the table then stays as it was. */
+uint8_t a5_table_load(const uint8_t *bytes, size_t n, double table[A5_TABLE]);
+
+/* Writes the file of a table, which a5_table_load reads back, to A5_TABLE_FILE bytes. Refusals: 20, also where there are not so
+ * many bytes, 21, 22; the bytes then stay as they were. */
+uint8_t a5_table_save(const double *table, size_t table_length, uint8_t *bytes, size_t n);
 
 /* A caption box: the smallest upright rectangle round the points of a face taken in so far. Where it is empty, the four
  * sides mean nothing. A box is used by one thread at a time. */

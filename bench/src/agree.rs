@@ -43,7 +43,12 @@ fn frames(ours: &Ours) {
 }
 
 pub fn check(degrees: &[[f64; 2]], radians: &[[f64; 2]]) {
-    let (mut ours, mut rust) = (Ours::new(), Stepped::new());
+    check_form(Ours::new(), degrees, radians);
+    check_form(Ours::with_table(), degrees, radians);
+}
+
+fn check_form(mut ours: Ours, degrees: &[[f64; 2]], radians: &[[f64; 2]]) {
+    let mut rust = Stepped::new();
     frames(&ours);
     for &[longitude, latitude] in degrees {
         let to = ours.from_lon_lat(longitude, latitude);

@@ -1,6 +1,6 @@
 // The three that are compared: the proved library, and the given Rust in both forms.
 
-use a5_faces::{calls, Face, LonLat, Place, Set, Spherical};
+use a5_faces::{calls, Face, LonLat, Place, Set, Spherical, Table};
 use std::hint::black_box;
 
 // Each call answers: the driver hands out no argument that is refused.
@@ -28,6 +28,8 @@ extern "C" {
 pub struct Ours {
     pub set: Set,
     spare: Set,
+    // by the calls with a table
+    table: Option<Table>,
 }
 
 impl Ours {
@@ -36,6 +38,17 @@ impl Ours {
         Ours {
             set: opened(),
             spare: opened(),
+            table: None,
+        }
+    }
+
+    // The built-in rows, handed over as a table: the same answers.
+    pub fn with_table() -> Ours {
+        let opened = || Set::new_with(Table::built_in()).expect("open");
+        Ours {
+            set: opened(),
+            spare: opened(),
+            table: Some(Table::built_in()),
         }
     }
 }
@@ -47,7 +60,12 @@ impl Form for Ours {
     }
 
     fn nearest(&mut self, theta: f64, phi: f64) -> u8 {
-        calls::nearest(Spherical { theta, phi }).expect("nearest")
+        let position = Spherical { theta, phi };
+        let nearest = match &self.table {
+            None => calls::nearest(position),
+            Some(table) => table.nearest(position),
+        };
+        nearest.expect("nearest")
     }
 
     fn from_lon_lat(&mut self, longitude: f64, latitude: f64) -> [f64; 2] {

@@ -16,6 +16,10 @@ use std::time::Instant;
 const POINTS: usize = 5000;
 const A_RUN: usize = 250;
 const RUNS: usize = 401;
+// the library, without a table and with the built-in rows as a table, and the Rust in both forms
+const FORMS: usize = 4;
+// the calls that take a table
+const WITH: [&str; 5] = ["open", "nearest", "forward", "place", "unplace"];
 
 const CALLS: [&str; 12] = [
     "open",
@@ -125,19 +129,22 @@ fn use_set(form: &mut impl Form, points: &Points) {
 }
 
 // For each form, the runs of each call. The forms take turns, and each round begins with another.
-fn interleaved(points: &Points) -> [Vec<[f64; CALLS.len()]>; 3] {
-    let mut times = [const { Vec::new() }; 3];
+fn interleaved(points: &Points) -> [Vec<[f64; CALLS.len()]>; FORMS] {
+    let mut times = [const { Vec::new() }; FORMS];
     let (mut ours, mut stepped, mut plain) = (Ours::new(), Stepped::new(), Plain::new());
+    let mut with = Ours::with_table();
     use_set(&mut ours, points);
+    use_set(&mut with, points);
     use_set(&mut stepped, points);
     use_set(&mut plain, points);
-    for turn in 0..3 * RUNS {
-        let round = turn / 3;
+    for turn in 0..FORMS * RUNS {
+        let round = turn / FORMS;
         let at = round * A_RUN % POINTS;
-        let form = (turn + round) % 3;
+        let form = (turn + round) % FORMS;
         times[form].push(match form {
             0 => run(&mut ours, points, at),
             1 => run(&mut stepped, points, at),
+            2 => run(&mut with, points, at),
             _ => run(&mut plain, points, at),
         });
     }
@@ -165,14 +172,18 @@ fn main() {
     agree::check(&points.degrees, &points.radians);
     let times = interleaved(&points);
     println!("ns a call: medians of {RUNS} interleaved runs");
-    println!("call             ours  stepped    plain  ours/stepped  ours/plain");
+    println!("call             ours  stepped    plain  ours/stepped  ours/plain    with  with/ours  with/plain");
     for (call, name) in CALLS.iter().enumerate() {
-        let [ours, stepped, plain] =
-            [0, 1, 2].map(|form| median(times[form].iter().map(|run| run[call]).collect()));
-        println!(
+        let [ours, stepped, with, plain] =
+            [0, 1, 2, 3].map(|form| median(times[form].iter().map(|run| run[call]).collect()));
+        print!(
             "{name:<12} {ours:>8.0} {stepped:>8.0} {plain:>8.0} {:>13.2} {:>11.2}",
             ours / stepped,
             ours / plain
         );
+        if WITH.contains(name) {
+            print!(" {with:>7.0} {:>10.2} {:>11.2}", with / ours, with / plain);
+        }
+        println!();
     }
 }

@@ -17,6 +17,35 @@ pub fn lengths(given: [usize; 3]) -> Result<(), u8> {
     }
 }
 
+// Paper 10: "A table reaches a call as exactly 84 numbers": another length is 20 at the C functions, tried first.
+pub fn table_length(given: usize) -> Result<(), u8> {
+    match given {
+        84 => Ok(()),
+        _ => Err(20),
+    }
+}
+
+// "Theta, phi and angle lie in ±8, quaternion numbers in ±1. All 84 numbers are finite. Each row's quaternion squares, summed left
+// to right, must differ from 1 by at most 1e-12." "Rows from first to last for each."
+pub fn table(rows: &[f64]) -> Result<(), u8> {
+    let limits = [8.0, 8.0, 1.0, 1.0, 1.0, 1.0, 8.0];
+    for row in rows.chunks(7) {
+        for (x, limit) in row.iter().zip(limits) {
+            if !x.is_finite() || *x < -limit || *x > limit {
+                return Err(21);
+            }
+        }
+    }
+    for row in rows.chunks(7) {
+        let [x, y, z, w] = [row[2], row[3], row[4], row[5]];
+        let off = x * x + y * y + z * z + w * w - 1.0;
+        if off < -1e-12 || off > 1e-12 {
+            return Err(22);
+        }
+    }
+    Ok(())
+}
+
 // "4: origin id above 11."
 pub fn origin(id: usize) -> Result<u8, u8> {
     match id {

@@ -152,6 +152,166 @@ pub fn unplace(
     })
 }
 
+// A call with a table, 84 numbers or it is refused, and as above.
+type OnSetWith<M> = unsafe extern "C" fn(
+    *const f64,
+    usize,
+    *const f64,
+    usize,
+    *mut f64,
+    usize,
+    *mut f64,
+    usize,
+    f64,
+    f64,
+    M,
+    *mut [f64; 2],
+) -> u8;
+
+#[inline]
+fn on_set_with<M>(
+    call: OnSetWith<M>,
+    table: &[f64],
+    (frame, face, sphere): (&[f64], &mut [f64], &mut [f64]),
+    numbers: [f64; 2],
+    more: M,
+) -> Result<[f64; 2], Refusal> {
+    let mut to = [0.0; 2];
+    let status = unsafe {
+        call(
+            table.as_ptr(),
+            table.len(),
+            frame.as_ptr(),
+            frame.len(),
+            face.as_mut_ptr(),
+            face.len(),
+            sphere.as_mut_ptr(),
+            sphere.len(),
+            numbers[0],
+            numbers[1],
+            more,
+            &mut to,
+        )
+    };
+    given(status, to)
+}
+
+/// [`open`] with the origins of a table.
+#[inline]
+pub fn open_with(
+    table: &[f64],
+    frame: &mut [f64],
+    face: &mut [f64],
+    sphere: &mut [f64],
+) -> Result<(), Refusal> {
+    let status = unsafe {
+        raw::a5_open_with(
+            table.as_ptr(),
+            table.len(),
+            frame.as_mut_ptr(),
+            frame.len(),
+            face.as_mut_ptr(),
+            face.len(),
+            sphere.as_mut_ptr(),
+            sphere.len(),
+        )
+    };
+    given(status, ())
+}
+
+/// [`forward`] with the origins of a table.
+#[inline]
+pub fn forward_with(
+    table: &[f64],
+    frame: &[f64],
+    face: &mut [f64],
+    sphere: &mut [f64],
+    position: Spherical,
+    origin: u8,
+) -> Result<Face, Refusal> {
+    let (set, numbers) = ((frame, face, sphere), [position.theta, position.phi]);
+    let to = on_set_with(raw::a5_forward_with, table, set, numbers, origin);
+    to.map(|[x, y]| Face { x, y })
+}
+
+/// [`inverse`] with the origins of a table.
+#[inline]
+pub fn inverse_with(
+    table: &[f64],
+    frame: &[f64],
+    face: &mut [f64],
+    sphere: &mut [f64],
+    place: Place,
+) -> Result<Spherical, Refusal> {
+    let (set, numbers) = ((frame, face, sphere), [place.face.x, place.face.y]);
+    let to = on_set_with(raw::a5_inverse_with, table, set, numbers, place.origin);
+    to.map(|[theta, phi]| Spherical { theta, phi })
+}
+
+/// [`place`] with the origins of a table.
+#[inline]
+pub fn place_with(
+    table: &[f64],
+    frame: &[f64],
+    face: &mut [f64],
+    sphere: &mut [f64],
+    position: LonLat,
+) -> Result<Place, Refusal> {
+    let mut origin = 0;
+    let (set, numbers) = (
+        (frame, face, sphere),
+        [position.longitude, position.latitude],
+    );
+    let to = on_set_with(raw::a5_place_with, table, set, numbers, &mut origin);
+    to.map(|[x, y]| Place {
+        origin,
+        face: Face { x, y },
+    })
+}
+
+/// [`unplace`] with the origins of a table.
+#[inline]
+pub fn unplace_with(
+    table: &[f64],
+    frame: &[f64],
+    face: &mut [f64],
+    sphere: &mut [f64],
+    place: Place,
+) -> Result<LonLat, Refusal> {
+    let (set, numbers) = ((frame, face, sphere), [place.face.x, place.face.y]);
+    let to = on_set_with(raw::a5_unplace_with, table, set, numbers, place.origin);
+    to.map(|[longitude, latitude]| LonLat {
+        longitude,
+        latitude,
+    })
+}
+
+/// [`nearest`] with the origins of a table.
+#[inline]
+pub fn nearest_with(table: &[f64], position: Spherical) -> Result<u8, Refusal> {
+    let mut id = 0;
+    let (theta, phi) = (position.theta, position.phi);
+    let status = unsafe { raw::a5_nearest_with(table.as_ptr(), table.len(), theta, phi, &mut id) };
+    given(status, id)
+}
+
+/// The numbers of a table file go to `table`.
+#[inline]
+pub fn table_load(bytes: &[u8], table: &mut [f64; 84]) -> Result<(), Refusal> {
+    given(
+        unsafe { raw::a5_table_load(bytes.as_ptr(), bytes.len(), table) },
+        (),
+    )
+}
+
+/// The file of a table goes to `bytes`, of which there must be [`TABLE_FILE`](crate::TABLE_FILE).
+#[inline]
+pub fn table_save(table: &[f64], bytes: &mut [u8]) -> Result<(), Refusal> {
+    let status =
+        unsafe { raw::a5_table_save(table.as_ptr(), table.len(), bytes.as_mut_ptr(), bytes.len()) };
+    given(status, ())
+}
+
 /// The coordinates of a filled slot, six or nine; `None` where the slot is empty.
 #[inline]
 pub fn show<'a>(

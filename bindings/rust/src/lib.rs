@@ -3,7 +3,8 @@
 //! A [`Set`] owns its buffers and is open from the start; its methods are the calls on it. [`calls`] has the same calls
 //! on slices that the caller keeps elsewhere. Every call is total: it answers, or it is refused with a [`Refusal`] and
 //! changes nothing. Angles of [`LonLat`] are degrees, those of [`Spherical`] are radians. A [`CaptionBox`] grows round
-//! the points of one face, and a [`Window`] keeps the last 180 minutes of strikes.
+//! the points of one face, and a [`Window`] keeps the last 180 minutes of strikes. A [`Table`] holds other origins, for a
+//! dodecahedron that is turned; a set is opened with it and remembers it.
 //!
 //! [`fair_turns`](fair_turns()) hands out a turn's place calls to sixteen channels. [`sqrt`] is the root that the calls
 //! take, and [`sqrt_rounds`] says how many rounds it takes.
@@ -17,6 +18,7 @@ mod raw;
 mod refusal;
 mod root;
 mod set;
+mod table;
 mod turns;
 mod window;
 
@@ -25,6 +27,7 @@ pub use points::{Face, LonLat, Place, Spherical, Store};
 pub use refusal::Refusal;
 pub use root::{sqrt, sqrt_rounds};
 pub use set::Set;
+pub use table::{Table, TABLE, TABLE_FILE};
 pub use turns::fair_turns;
 pub use window::Window;
 

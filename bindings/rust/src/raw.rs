@@ -29,6 +29,35 @@ on_a_set! {
     a5_unplace(x, y, origin: u8);
 }
 
+// The same with a table before the set.
+macro_rules! on_a_set_with {
+    ($($name:ident($x:ident, $y:ident, $more:ident: $type:ty);)*) => {
+        extern "C" {
+            $(pub fn $name(
+                table: *const f64,
+                table_length: usize,
+                frame: *const f64,
+                frame_length: usize,
+                face: *mut f64,
+                face_length: usize,
+                sphere: *mut f64,
+                sphere_length: usize,
+                $x: f64,
+                $y: f64,
+                $more: $type,
+                to: *mut [f64; 2],
+            ) -> u8;)*
+        }
+    };
+}
+
+on_a_set_with! {
+    a5_forward_with(theta, phi, origin: u8);
+    a5_inverse_with(x, y, origin: u8);
+    a5_place_with(longitude, latitude, id: *mut u8);
+    a5_unplace_with(x, y, origin: u8);
+}
+
 #[link(name = "a5faces", kind = "static")]
 extern "C" {
     pub fn a5_open(
@@ -39,6 +68,25 @@ extern "C" {
         sphere: *mut f64,
         sphere_length: usize,
     ) -> u8;
+    pub fn a5_open_with(
+        table: *const f64,
+        table_length: usize,
+        frame: *mut f64,
+        frame_length: usize,
+        face: *mut f64,
+        face_length: usize,
+        sphere: *mut f64,
+        sphere_length: usize,
+    ) -> u8;
+    pub fn a5_nearest_with(
+        table: *const f64,
+        table_length: usize,
+        theta: f64,
+        phi: f64,
+        id: *mut u8,
+    ) -> u8;
+    pub fn a5_table_load(bytes: *const u8, n: usize, table: *mut [f64; 84]) -> u8;
+    pub fn a5_table_save(table: *const f64, table_length: usize, bytes: *mut u8, n: usize) -> u8;
     pub fn a5_show(
         face: *const f64,
         face_length: usize,

@@ -18,7 +18,7 @@ pub enum Refusal {
     OutOfRange = 6,
     /// Open's frame hasn't 62 rows: never with the built-in table, as is proved.
     FrameRows = 7,
-    /// A triangle that must be built has no vertex in the frame: the set was not opened.
+    /// A triangle that must be built has no vertex in the frame: the set was not opened, or not with such a table.
     NoVertex = 8,
     /// The answer would have a number that isn't finite.
     AnswerNotFinite = 9,
@@ -37,6 +37,12 @@ pub enum Refusal {
     /// Inverse and unplace: no corner is returned, and the angle from the area share is finite and beyond ±64: the point is
     /// too far off the face.
     AngleOutside = 19,
+    /// A table isn't 84 numbers long; a table file's length, mark or version is wrong.
+    TableFile = 20,
+    /// A number of a table isn't finite or is outside its range.
+    TableNumber = 21,
+    /// A row of a table has a quaternion off unit length by more than 1e-12.
+    TableQuaternion = 22,
     /// Fair turns: not exactly 16 wishes.
     WishCount = 24,
     /// Fair turns: not exactly 16 places for grants.
@@ -47,7 +53,7 @@ pub enum Refusal {
 
 impl Refusal {
     /// Every refusal, in the table's order.
-    pub const ALL: [Refusal; 19] = [
+    pub const ALL: [Refusal; 22] = [
         Refusal::FrameLength,
         Refusal::FaceStoreLength,
         Refusal::SphereStoreLength,
@@ -64,6 +70,9 @@ impl Refusal {
         Refusal::EarlierMinute,
         Refusal::WindowFull,
         Refusal::AngleOutside,
+        Refusal::TableFile,
+        Refusal::TableNumber,
+        Refusal::TableQuaternion,
         Refusal::WishCount,
         Refusal::GrantCount,
         Refusal::PageLength,

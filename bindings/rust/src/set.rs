@@ -1,64 +1,114 @@
 // A set that owns its buffers.
 
 use crate::calls;
-use crate::{Face, LonLat, Place, Refusal, Spherical, Store};
+use crate::{Face, LonLat, Place, Refusal, Spherical, Store, Table};
 
 /// The frame, the face store and the sphere store, open from the start. The calls fill slots of the stores, which makes
 /// later calls quicker; an answer never depends on the calls before it. A call takes the set as `&mut`, so that no two
-/// threads use it at once.
+/// threads use it at once. A set remembers the [`Table`] that it was opened with, and hands it to its calls.
 #[derive(Clone, Debug)]
 pub struct Set {
     frame: Box<[f64]>,
     face: Box<[f64]>,
     sphere: Box<[f64]>,
+    // none: the built-in one, by the calls without a table
+    table: Option<Table>,
 }
 
 impl Set {
-    /// A newly opened set.
-    pub fn new() -> Result<Set, Refusal> {
-        let mut set = Set {
+    // Not open yet.
+    fn unopened() -> Set {
+        Set {
             frame: vec![0.0; crate::FRAME].into(),
             face: vec![0.0; crate::FACE_STORE].into(),
             sphere: vec![0.0; crate::SPHERE_STORE].into(),
-        };
+            table: None,
+        }
+    }
+
+    /// A newly opened set, with the built-in table.
+    pub fn new() -> Result<Set, Refusal> {
+        let mut set = Set::unopened();
         set.open()?;
         Ok(set)
     }
 
-    /// Writes the frame again and empties every slot.
+    /// A newly opened set, with a table.
+    pub fn new_with(table: Table) -> Result<Set, Refusal> {
+        let mut set = Set::unopened();
+        set.open_with(table)?;
+        Ok(set)
+    }
+
+    /// Writes the frame again and empties every slot, with the table that the set has.
     #[inline]
     pub fn open(&mut self) -> Result<(), Refusal> {
-        calls::open(&mut self.frame, &mut self.face, &mut self.sphere)
+        match &self.table {
+            None => calls::open(&mut self.frame, &mut self.face, &mut self.sphere),
+            Some(table) => calls::open_with(
+                table.numbers(),
+                &mut self.frame,
+                &mut self.face,
+                &mut self.sphere,
+            ),
+        }
+    }
+
+    /// Opens the set with another table, which it then has. Where that is refused, the set stays as it was, with its table.
+    pub fn open_with(&mut self, table: Table) -> Result<(), Refusal> {
+        calls::open_with(
+            table.numbers(),
+            &mut self.frame,
+            &mut self.face,
+            &mut self.sphere,
+        )?;
+        self.table = Some(table);
+        Ok(())
+    }
+
+    /// The table that the set was opened with.
+    pub fn table(&self) -> Table {
+        self.table.clone().unwrap_or_else(Table::built_in)
     }
 
     /// The point of a position on the face of an origin.
     #[inline]
     pub fn forward(&mut self, position: Spherical, origin: u8) -> Result<Face, Refusal> {
-        calls::forward(
-            &self.frame,
-            &mut self.face,
-            &mut self.sphere,
-            position,
-            origin,
-        )
+        let (frame, face, sphere) = (&self.frame, &mut self.face, &mut self.sphere);
+        match &self.table {
+            None => calls::forward(frame, face, sphere, position, origin),
+            Some(t) => calls::forward_with(t.numbers(), frame, face, sphere, position, origin),
+        }
     }
 
     /// The position of a point on the face of an origin.
     #[inline]
     pub fn inverse(&mut self, place: Place) -> Result<Spherical, Refusal> {
-        calls::inverse(&self.frame, &mut self.face, &mut self.sphere, place)
+        let (frame, face, sphere) = (&self.frame, &mut self.face, &mut self.sphere);
+        match &self.table {
+            None => calls::inverse(frame, face, sphere, place),
+            Some(t) => calls::inverse_with(t.numbers(), frame, face, sphere, place),
+        }
     }
 
     /// The nearest origin of a longitude and latitude, and the point on its face.
     #[inline]
     pub fn place(&mut self, position: LonLat) -> Result<Place, Refusal> {
-        calls::place(&self.frame, &mut self.face, &mut self.sphere, position)
+        let (frame, face, sphere) = (&self.frame, &mut self.face, &mut self.sphere);
+        match &self.table {
+            None => calls::place(frame, face, sphere, position),
+            Some(t) => calls::place_with(t.numbers(), frame, face, sphere, position),
+        }
     }
 
     /// The longitude and latitude of a point on the face of an origin.
     #[inline]
     pub fn unplace(&mut self, place: Place) -> Result<LonLat, Refusal> {
-        calls::unplace(&self.frame, &mut self.face, &mut self.sphere, place)
+        let (frame, face, sphere) = (&self.frame, &mut self.face, &mut self.sphere);
+        match &self.table {
+            None => calls::unplace(frame, face, sphere, place),
+            Some(t) => calls::unplace_with(t.numbers(), frame, face, sphere, place),
+        }
     }
 
     /// The coordinates of a filled slot, six or nine; `None` where the slot is empty.

@@ -35,3 +35,14 @@ module _ {A : Type 0} where
 
   pub bind-of-refused : {B : Type 0} (g : Given B) (f : B → Given A) (n : ℕ) → g ≡ refused n → bind g f ≡ refused n
   bind-of-refused g f n e = ap (λ (h : Given _). bind h f) e
+
+  -- ---- one test after another
+
+  pub then-then : (a b : Given (Unit {0})) (rest : Given A) → andThen a (andThen b rest) ≡ andThen (andThen a b) rest
+  then-then (answered u) b rest = refl
+  then-then (refused n) b rest = refl
+
+-- a test that passes may be left out
+pub then-pass : (a b : Given (Unit {0})) → b ≡ passed → andThen a b ≡ a
+then-pass (answered u) b e = e
+then-pass (refused n) b e = refl

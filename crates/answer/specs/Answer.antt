@@ -40,6 +40,12 @@ numberOf refusal.EarlierMinute = 17
 numberOf refusal.WindowFull = 18
 -- Paper 7: "no corner is returned and that angle is finite and beyond ±64", the angle from the area share in inverse and unplace
 numberOf refusal.AngleOutside = 19
+-- Paper 10: "wrong length, mark or version"
+numberOf refusal.TableFile = 20
+-- Paper 10: "a number not finite or outside its range"
+numberOf refusal.TableNumber = 21
+-- Paper 10: "a quaternion off unit length"
+numberOf refusal.TableQuaternion = 22
 -- Paper 12: "not exactly 16 wishes"
 numberOf refusal.WishCount = 24
 -- Paper 12: "not exactly 16 grant places"

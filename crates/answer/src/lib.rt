@@ -39,6 +39,12 @@ pub enum Refusal {
     WindowFull,
     // 19: inverse, unplace: no corner is returned, and the angle from the area share is beyond ±64 (Paper 7)
     AngleOutside,
+    // 20: table file: the length, the mark or the version is wrong (Paper 10)
+    TableFile,
+    // 21: table: a number isn't finite or is outside its range (Paper 10)
+    TableNumber,
+    // 22: table: a row's quaternion is off unit length (Paper 10)
+    TableQuaternion,
     // 24: turns: there aren't exactly 16 wishes (Paper 12)
     WishCount,
     // 25: turns: there aren't exactly 16 grant places (Paper 12)
@@ -68,6 +74,9 @@ pub fn number(r: Refusal) -> u8
         Refusal::EarlierMinute => 17,
         Refusal::WindowFull => 18,
         Refusal::AngleOutside => 19,
+        Refusal::TableFile => 20,
+        Refusal::TableNumber => 21,
+        Refusal::TableQuaternion => 22,
         Refusal::WishCount => 24,
         Refusal::GrantCount => 25,
         Refusal::PageLength => 26,

@@ -2,17 +2,17 @@
 use coordinates::base::Radians;
 use coordinates::coords::Cartesian;
 use coordinates::spherical::Spherical;
-use origin::origin::get_origin;
 use origin::quaternion::transform_quat;
+use origin::table::origin_in;
 use origin::utils::Origin;
 use transforms::coordinate_transforms::to_cartesian;
 ghost use mathlib.Core.Path.{_≡_};
-ghost use mathlib.Core.Bool.{false};
+ghost use mathlib.Core.Bool.{true, false};
 ghost use Prim.Native.Nat.{_<_};
 ghost use Rattle.arithmetic.specs.Arith.{ieee};
 ghost use Rattle.elementary.specs.Sine.{beyond, outside};
 ghost use Rattle.coordinates.specs.Constants.{8·0};
-ghost use Rattle.origin.specs.Origins.{ORIGINS};
+ghost use Rattle.origin.specs.Table.{numbersSound};
 ghost use Rattle.crs.specs.Candidates.{around, faceCenter, vertex, midpoint, candidate};
 
 const PI: f64 = 3.141592653589793;
@@ -36,37 +36,41 @@ fn around(origin: Origin, m: u8, phi: f64) -> Cartesian
     transform_quat(to_cartesian(spherical), origin.quat)
 }
 
-// The centre of face k.
-fn face_center(k: u8) -> Cartesian
-    ensures { λ r. ⌜ r ≡ faceCenter ieee ORIGINS k ⌝ }
+// The centre of face k of a table.
+fn face_center(table: &[f64; 84], k: u8) -> Cartesian
+    requires { ⌜ (numbersSound (now table) ≡ true) × (k < 12) ⌝ }
+    ensures { λ r. ⌜ r ≡ faceCenter ieee (now (table .entry)) k ⌝ }
 {
-    let origin = get_origin(k);
+    let origin = origin_in(table, k);
     to_cartesian(origin.axis)
 }
 
-// Vertex k % 5 of face k / 5.
-fn vertex(k: u8) -> Cartesian
-    ensures { λ r. ⌜ r ≡ vertex ieee ORIGINS k ⌝ }
+// Vertex k % 5 of face k / 5 of a table.
+fn vertex(table: &[f64; 84], k: u8) -> Cartesian
+    requires { ⌜ (numbersSound (now table) ≡ true) × (k < 60) ⌝ }
+    ensures { λ r. ⌜ r ≡ vertex ieee (now (table .entry)) k ⌝ }
 {
-    around(get_origin(k / 5), 2 * (k % 5) + 1, PHI_VERTEX)
+    around(origin_in(table, k / 5), 2 * (k % 5) + 1, PHI_VERTEX)
 }
 
-// The midpoint of edge k % 5 of face k / 5.
-fn midpoint(k: u8) -> Cartesian
-    ensures { λ r. ⌜ r ≡ midpoint ieee ORIGINS k ⌝ }
+// The midpoint of edge k % 5 of face k / 5 of a table.
+fn midpoint(table: &[f64; 84], k: u8) -> Cartesian
+    requires { ⌜ (numbersSound (now table) ≡ true) × (k < 60) ⌝ }
+    ensures { λ r. ⌜ r ≡ midpoint ieee (now (table .entry)) k ⌝ }
 {
-    around(get_origin(k / 5), 2 * (k % 5), PHI_MIDPOINT)
+    around(origin_in(table, k / 5), 2 * (k % 5), PHI_MIDPOINT)
 }
 
-// The candidate with the number k. In the Rust's order: 12 centres, five vertices of each face, five midpoints of each.
-pub fn candidate(k: u8) -> Cartesian
-    ensures { λ r. ⌜ r ≡ candidate ieee ORIGINS k ⌝ }
+// The candidate with the number k, over a table. In the Rust's order: 12 centres, five vertices of each face, five midpoints of each.
+pub fn candidate(table: &[f64; 84], k: u8) -> Cartesian
+    requires { ⌜ (numbersSound (now table) ≡ true) × (k < 132) ⌝ }
+    ensures { λ r. ⌜ r ≡ candidate ieee (now (table .entry)) k ⌝ }
 {
     if k < 12 {
-        return face_center(k);
+        return face_center(table, k);
     }
     if k < 72 {
-        return vertex(k - 12);
+        return vertex(table, k - 12);
     }
-    midpoint(k - 72)
+    midpoint(table, k - 72)
 }

@@ -4,11 +4,12 @@ use answer::Refusal;
 use coordinates::coords::Cartesian;
 use coordinates::vec3::Vec3;
 ghost use mathlib.Core.Path.{_≡_};
+ghost use mathlib.Core.Bool.{true};
 ghost use mathlib.Core.List.{_++_};
 ghost use Prim.Native.Nat.{_+_, _≤_};
 ghost use lib.ListN.{length, take, drop};
 ghost use Rattle.arithmetic.specs.Arith.{ieee};
-ghost use Rattle.origin.specs.Origins.{ORIGINS};
+ghost use Rattle.origin.specs.Table.{numbersSound};
 ghost use Rattle.crs.specs.Frame.{near, givenVertex, findVertex, addRow, frameRows};
 
 // What a lookup comes to: the row, or the refusal.
@@ -65,16 +66,17 @@ fn add(rows: &mut [f64], used: usize, point: Cartesian) -> usize
     used + 3
 }
 
-// Writes the frame's rows to the front of `rows`, which has room for every candidate. How many
-// numbers they are.
-pub fn build_frame(rows: &mut [f64; 396]) -> usize
-    ensures used { λ r. ⌜ r ≡ length (frameRows ieee ORIGINS) ⌝ }
-    ensures rows { λ r. ⌜ now (rows .exit) ≡ frameRows ieee ORIGINS ++ drop r (now (rows .entry)) ⌝ }
+// Writes the rows of a table's frame to the front of `rows`, which has room for every candidate. How
+// many numbers they are.
+pub fn build_frame(table: &[f64; 84], rows: &mut [f64; 396]) -> usize
+    requires { ⌜ numbersSound (now table) ≡ true ⌝ }
+    ensures used { λ r. ⌜ r ≡ length (frameRows ieee (now (table .entry))) ⌝ }
+    ensures rows { λ r. ⌜ now (rows .exit) ≡ frameRows ieee (now (table .entry)) ++ drop r (now (rows .entry)) ⌝ }
 {
     let mut used: usize = 0;
     let mut k: u8 = 0;
     while k < 132 {
-        used = add(rows, used, candidate(k));
+        used = add(rows, used, candidate(table, k));
         k += 1;
     }
     used

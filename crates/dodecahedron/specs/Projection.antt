@@ -13,7 +13,6 @@ use Rattle.coordinates.specs.declared.coords.Cartesian.{Cartesian}
 use Rattle.coordinates.specs.declared.coords.Face.{Face}
 use Rattle.coordinates.specs.declared.polar.Polar.{Polar}
 use Rattle.coordinates.specs.declared.spherical.Spherical.{Spherical}
-use Rattle.origin.specs.Origins.{originAt}
 use Rattle.origin.specs.Quaternion.{quatConjugate, transformQuat}
 use Rattle.origin.specs.declared.utils.Origin.{Origin}
 use Rattle.equal_area.specs.EqualArea.{computeConstants, forward, inverse}
@@ -44,17 +43,18 @@ module _ (A : Arith) where
       -- turned about the face's axis, so that the origin's own angle is off
       record { rho = polar .rho; gamma = radians (polar .gamma .0 ⊖ o .angle .0) }
 
-module _ (A : Arith) (table : List Float) (s : Set) where
+-- on the origin that has the number o
+module _ (A : Arith) (origin : Origin) (s : Set) where
   -- DodecahedronProjection::forward; 8. Paper 6: "Forward reads b × c there, as it stands, instead of forming it".
   unfoldable pub forwardCore : Spherical → ℕ → Given (Work Face)
   forwardCore p o =
       let v = toCartesian A p in
-      bind (usedFor A table s o (polarAbout A (originAt table o) v)) λ u.
+      bind (usedFor A origin s o (polarAbout A origin v)) λ u.
       answered (record { answer = forward A (frameConstants A (s .frame)) v (u .triangle) (u .bxc) (faceFor A s u); used = u })
 
   -- DodecahedronProjection::inverse; 8, and Paper 7's 19, "tried after 8 and before 9". It has no use for b × c.
   unfoldable pub inverseCore : Face → ℕ → Given (Work Spherical)
   inverseCore f o =
-      bind (usedFor A table s o (toPolar A f)) λ u.
+      bind (usedFor A origin s o (toPolar A f)) λ u.
       bind (inverse A (frameConstants A (s .frame)) f (faceFor A s u) (u .triangle)) λ v.
       answered (record { answer = toSpherical A v; used = u })

@@ -1,4 +1,4 @@
-// Forward, inverse, place and unplace on a set. A call checks its arguments, works its answer out,
+// Forward, inverse, place and unplace on a set, with the built-in table. A call checks its arguments, works its answer out,
 // looks at that, and only then writes the empty slots that it used.
 use crate::place::PlaceAnswer;
 use crate::projection::forward_core;
@@ -22,6 +22,7 @@ use coordinates::coords::Face;
 use coordinates::lonlat::LonLat;
 use coordinates::spherical::Spherical;
 use origin::origin::find_nearest_origin;
+use origin::origin::get_origin;
 use set::checks::check_call;
 use set::checks::first_refusal;
 use set::set::check_set;
@@ -51,7 +52,14 @@ fn forward_work(
     if let Check::Refused(n) = check {
         return FaceWork::Refused(n);
     }
-    finish_face(forward_core(frame, face_store, sphere_store, spherical, origin))
+    finish_face(forward_core(
+        frame,
+        face_store,
+        sphere_store,
+        spherical,
+        get_origin(origin),
+        origin,
+    ))
 }
 
 // A position on the sphere to a point on an origin's face.
@@ -89,7 +97,14 @@ fn inverse_work(
     if let Check::Refused(n) = check {
         return SphericalWork::Refused(n);
     }
-    finish_spherical(inverse_core(frame, face_store, sphere_store, face, origin))
+    finish_spherical(inverse_core(
+        frame,
+        face_store,
+        sphere_store,
+        face,
+        get_origin(origin),
+        origin,
+    ))
 }
 
 // A point on an origin's face back to a position on the sphere.
@@ -123,7 +138,14 @@ fn place_work(frame: &[f64], face_store: &[f64], sphere_store: &[f64], lonlat: L
     }
     let spherical = from_lon_lat(lonlat);
     let origin = find_nearest_origin(spherical);
-    let core = forward_core(frame, face_store, sphere_store, spherical, origin);
+    let core = forward_core(
+        frame,
+        face_store,
+        sphere_store,
+        spherical,
+        get_origin(origin),
+        origin,
+    );
     finish_place(origin, core)
 }
 
@@ -161,7 +183,14 @@ fn unplace_work(
     if let Check::Refused(n) = check {
         return LonLatWork::Refused(n);
     }
-    finish_lon_lat(inverse_core(frame, face_store, sphere_store, face, origin))
+    finish_lon_lat(inverse_core(
+        frame,
+        face_store,
+        sphere_store,
+        face,
+        get_origin(origin),
+        origin,
+    ))
 }
 
 // A point on an origin's face back to a longitude and a latitude.

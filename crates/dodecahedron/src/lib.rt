@@ -1,5 +1,5 @@
 // The calls on a set: a frame, a face store and a sphere store.
 pub mod calls;
 pub mod place;
-mod projection;
+pub mod projection;
 pub mod work;

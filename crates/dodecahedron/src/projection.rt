@@ -1,5 +1,5 @@
-// Forward and inverse on a set that passes 1 to 4, without the checks of their numbers. Nothing is
-// written here.
+// Forward and inverse on a set that passes 1 to 4, on the origin that has the number id, without the
+// checks of their numbers. Nothing is written here.
 use crate::work::FaceDone;
 use crate::work::FaceWork;
 use crate::work::SphericalDone;
@@ -13,7 +13,6 @@ use coordinates::spherical::Spherical;
 use coordinates::vec3::Vec3;
 use equal_area::equal_area::PointAnswer;
 use equal_area::equal_area::TriangleConstants;
-use origin::origin::get_origin;
 use origin::utils::Origin;
 use transforms::coordinate_transforms::to_cartesian;
 use transforms::coordinate_transforms::to_polar;
@@ -26,8 +25,8 @@ ghost use Prim.Native.Nat.{_+_, _*_, _≤_};
 ghost use lib.ListN.{length};
 ghost use Rattle.answer.specs.Given.{passed};
 ghost use Rattle.arithmetic.specs.Arith.{ieee};
-ghost use Rattle.elementary.specs.Sine.{outside};
-ghost use Rattle.origin.specs.Origins.{ORIGINS};
+ghost use Rattle.elementary.specs.Sine.{beyond, outside};
+ghost use Rattle.coordinates.specs.Constants.{8·0};
 ghost use Rattle.set.specs.Sizes.{FRAME};
 ghost use Rattle.set.specs.Checks.{checkCall};
 ghost use Rattle.set.specs.Outcome.{held, lent};
@@ -76,20 +75,21 @@ fn polar_about(origin: Origin, v: Cartesian) -> Polar
 
 // Forward on a set that passes 1 to 4: the triangles of the point, and the point from one to the
 // other by equal areas.
-pub(crate) fn forward_core(
+pub fn forward_core(
     frame: &[f64],
     face_store: &[f64],
     sphere_store: &[f64],
     spherical: Spherical,
-    origin: u8,
+    origin: Origin,
+    id: u8,
 ) -> FaceWork
-    requires { ⌜ checkCall (held frame «face_store» «sphere_store») origin ≡ passed ⌝ }
+    requires { ⌜ (checkCall (held frame «face_store» «sphere_store») id ≡ passed) × (beyond 8·0 (origin .angle .0) ≡ false) ⌝ }
     requires { ⌜ (outside (spherical .theta .0) ≡ false) × (outside (spherical .phi .0) ≡ false) ⌝ }
-    ensures { λ r. ⌜ givenFaceWork r ≡ forwardCore ieee ORIGINS (lent frame «face_store» «sphere_store» .entry) spherical origin ⌝ }
+    ensures { λ r. ⌜ givenFaceWork r ≡ forwardCore ieee origin (lent frame «face_store» «sphere_store» .entry) spherical id ⌝ }
 {
     let unprojected = to_cartesian(spherical);
-    let polar = polar_about(get_origin(origin), unprojected);
-    match take(frame, face_store, sphere_store, origin, polar) {
+    let polar = polar_about(origin, unprojected);
+    match take(frame, face_store, sphere_store, origin, id, polar) {
         TakenAnswer::Refused(n) => FaceWork::Refused(n),
         TakenAnswer::Answered(taken) => {
             let used = taken.used;
@@ -108,17 +108,18 @@ pub(crate) fn forward_core(
 
 // Inverse on a set that passes 1 to 4: the triangles of the point, and the point back from one to
 // the other; 19 where the angle of its area share is outside.
-pub(crate) fn inverse_core(
+pub fn inverse_core(
     frame: &[f64],
     face_store: &[f64],
     sphere_store: &[f64],
     face: Face,
-    origin: u8,
+    origin: Origin,
+    id: u8,
 ) -> SphericalWork
-    requires { ⌜ checkCall (held frame «face_store» «sphere_store») origin ≡ passed ⌝ }
-    ensures { λ r. ⌜ givenSphericalWork r ≡ inverseCore ieee ORIGINS (lent frame «face_store» «sphere_store» .entry) face origin ⌝ }
+    requires { ⌜ (checkCall (held frame «face_store» «sphere_store») id ≡ passed) × (beyond 8·0 (origin .angle .0) ≡ false) ⌝ }
+    ensures { λ r. ⌜ givenSphericalWork r ≡ inverseCore ieee origin (lent frame «face_store» «sphere_store» .entry) face id ⌝ }
 {
-    match take(frame, face_store, sphere_store, origin, to_polar(face)) {
+    match take(frame, face_store, sphere_store, origin, id, to_polar(face)) {
         TakenAnswer::Refused(n) => SphericalWork::Refused(n),
         TakenAnswer::Answered(taken) => {
             let used = taken.used;

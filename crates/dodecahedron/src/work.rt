@@ -67,7 +67,7 @@ pub enum LonLatWork {
 }
 
 // Forward's end: 9 unless the face point is finite.
-pub(crate) fn finish_face(core: FaceWork) -> FaceWork
+pub fn finish_face(core: FaceWork) -> FaceWork
     ensures { λ r. ⌜ givenFaceWork r ≡ finish (givenFaceWork core) finiteFace ⌝ }
 {
     match core {
@@ -83,7 +83,7 @@ pub(crate) fn finish_face(core: FaceWork) -> FaceWork
 }
 
 // Inverse's end: 9 unless the position is finite.
-pub(crate) fn finish_spherical(core: SphericalWork) -> SphericalWork
+pub fn finish_spherical(core: SphericalWork) -> SphericalWork
     ensures { λ r. ⌜ givenSphericalWork r ≡ finish (givenSphericalWork core) finiteSpherical ⌝ }
 {
     match core {
@@ -99,7 +99,7 @@ pub(crate) fn finish_spherical(core: SphericalWork) -> SphericalWork
 }
 
 // Place's end: 9 unless the face point is finite; the origin's id goes with it.
-pub(crate) fn finish_place(origin: u8, core: FaceWork) -> PlaceWork
+pub fn finish_place(origin: u8, core: FaceWork) -> PlaceWork
     ensures { λ r. ⌜ givenPlaceWork r ≡ finish (givenFaceWork core) (finitePlace origin) ⌝ }
 {
     match core {
@@ -116,7 +116,7 @@ pub(crate) fn finish_place(origin: u8, core: FaceWork) -> PlaceWork
 }
 
 // Unplace's end: to longitude and latitude, and 9 unless both are finite.
-pub(crate) fn finish_lon_lat(core: SphericalWork) -> LonLatWork
+pub fn finish_lon_lat(core: SphericalWork) -> LonLatWork
     requires { ⌜ ((w : Work Spherical) → givenSphericalWork core ≡ answered w → outside (sub binary64 FRAC-PI-2 (w .answer .phi .0)) ≡ false) ⌝ }
     ensures { λ r. ⌜ givenLonLatWork r ≡ finish (givenSphericalWork core) (λ p. finiteLonLat (toLonLat ieee p)) ⌝ }
 {

@@ -1,3 +1,2 @@
 -- Laws behind the proofs of the functions.
 pub mod Shown
-pub mod Returns

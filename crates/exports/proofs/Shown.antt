@@ -10,7 +10,7 @@ use Rattle.answer.specs.Given.{answered}
 use Rattle.stores.specs.Slots.{run}
 use Rattle.show.specs.Show.{named, slotGiven, partShown, placeIn, placeShown}
 use Rattle.show.specs.declared.StoreKind.{StoreKind}
-use Rattle.exports.specs.Returns.{written}
+use Rattle.border.specs.Returns.{written}
 use Rattle.exports.specs.Slots as slots
 
 -- the numbers of a store that an offset and a length name

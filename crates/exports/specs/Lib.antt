@@ -1,4 +1,2 @@
--- The calls as C functions: what they return, and what they leave in the numbers lent for their answers. Definitions only.
-pub mod Returns
-pub mod Calls
+-- Show and its companion as C functions. Definitions only.
 pub mod Slots

@@ -14,8 +14,8 @@ ghost use Rattle.coordinates.specs.CoordinateTransforms.{face};
 ghost use Rattle.origin.specs.Origins.{ORIGINS};
 ghost use Rattle.set.specs.Outcome.{lent};
 ghost use Rattle.dodecahedron.specs.Calls.{forwardOn, inverseOn, placeOn, unplaceOn};
-ghost use Rattle.exports.specs.Returns.{ReturnsOn, contents, contentsOf};
-ghost use Rattle.exports.specs.Calls.{lonLat, spherical, angles, degrees, point, idAndPoint};
+ghost use Rattle.border.specs.Returns.{ReturnsOn, contents, contentsOf};
+ghost use Rattle.border.specs.Calls.{lonLat, spherical, angles, degrees, point, idAndPoint};
 
 // Forward: the face point, x and y, of a position, in radians, on the face of an origin.
 #[no_mangle]

@@ -25,8 +25,8 @@ ghost use Rattle.origin.specs.Nearest.{nearestGiven};
 ghost use Rattle.set.specs.Outcome.{lent, Becomes};
 ghost use Rattle.set.specs.Open.{openOn};
 ghost use Rattle.answer.specs.Given.{status};
-ghost use Rattle.exports.specs.Returns.{Returns, contents};
-ghost use Rattle.exports.specs.Calls.{id as Calls·id, angles, degrees, lonLat, spherical};
+ghost use Rattle.border.specs.Returns.{Returns, contents};
+ghost use Rattle.border.specs.Calls.{id as Calls·id, angles, degrees, lonLat, spherical};
 
 // Open: writes the frame and fills both stores with 0.0.
 #[no_mangle]

@@ -8,7 +8,7 @@ use show::StoreKind;
 ghost use mathlib.Core.Path.{_≡_};
 ghost use Prim.Native.Nat.{_<_};
 ghost use Rattle.show.specs.Show.{slotGiven, slotsIn};
-ghost use Rattle.exports.specs.Returns.{Returns, contents};
+ghost use Rattle.border.specs.Returns.{Returns, contents};
 ghost use Rattle.exports.specs.Slots.{storeNamed, coordinatesAt, mark, part as Slots·part};
 
 // 0 names the face store and every other number the sphere store, as C reads a truth value:

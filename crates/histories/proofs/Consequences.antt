@@ -1,11 +1,12 @@
 -- What a reader may try on the theorem: a refused call leaves the set; open twice is open once; one answered call on a newly opened set
 -- fills exactly two slots, or three if it is reflected; place, then show, gives the coordinates defined. Assumes nothing.
 use mathlib.Core.Path.{_≡_, refl, sym, ap, ap₂, subst, _∙_}
-use mathlib.Core.Bool.{Bool, true, false, not, cond, or-true, true≢false}
+use mathlib.Core.Bool.{Bool, true, false, not, cond, or-true, or-false, true≢false}
 use mathlib.Core.List.{List, [], _∷_, _++_}
 use Prim.Native.Nat.{ℕ, _+_, _*_}
 use lib.Dec.{eqb}
 use lib.ListN.{length}
+use lib.Ieee.{Float}
 use borrow.Author.Tests.{eq-eqb, eqb-true, not-false}
 use Rattle.answer.specs.Given.{Given, answered, refused, passed}
 use Rattle.answer.proofs.Given.{refuse-answered, then-answered}
@@ -13,7 +14,7 @@ use Rattle.arithmetic.specs.Arith.{ieee}
 use Rattle.coordinates.specs.declared.coords.Face.{Face}
 use Rattle.coordinates.specs.declared.coords.SphericalTriangle.{SphericalTriangle}
 use Rattle.coordinates.specs.declared.lonlat.LonLat.{LonLat}
-use Rattle.origin.specs.Origins.{ORIGINS}
+use Rattle.origin.specs.Table.{checkTable}
 use Rattle.tiling.specs.FaceTriangles.{faceTriangle}
 use Rattle.crs.specs.Frame.{frameRows}
 use Rattle.set.specs.Sizes.{FRAME, FACE-SLOTS, FACE-WIDTH, SPHERE-SLOTS, SPHERE-WIDTH}
@@ -27,7 +28,7 @@ use Rattle.show.specs.declared.StoreKind.the-variants as kind
 use Rattle.set.specs.Set.{Set, checkSet}
 use Rattle.dodecahedron.specs.Work.{Work, usedOf}
 use Rattle.dodecahedron.specs.Calls.{placeGiven, unplaceGiven}
-use Rattle.histories.specs.Lists.{Call, opens, places, unplaces, Effect, writes, uses, reads, effect, after, step, run}
+use Rattle.histories.specs.Lists.{Standing, standing, Call, places, unplaces, Effect, writes, uses, reads, alone, effect, after, step, run}
 use Rattle.histories.specs.Since.{facesAt}
 use Rattle.histories.specs.Defined.{sphereDefined}
 use Rattle.histories.specs.EveryList.{opened, left, lastOpen}
@@ -42,84 +43,88 @@ use Rattle.histories.proofs.Shown.{shownOn, face-shown, sphere-shown}
 
 -- ---- a refused call leaves the set, whatever the buffers hold
 
-pub refused-leaves : (s : Set) (c : Call) → isRefused (effect s c) ≡ true → step s c ≡ s
+pub refused-leaves : (s : Standing) (c : Call) → isRefused (effect s c) ≡ true → step s c ≡ s
 refused-leaves s c = go (effect s c)
   where
     go : (e : Effect) → isRefused e ≡ true → after s e ≡ s
-    go (writes (answered u)) is = absurd (true≢false (sym is))
-    go (writes (refused n)) is = refl
-    go (uses (answered u)) is = absurd (true≢false (sym is))
+    go (writes table (answered u)) is = absurd (true≢false (sym is))
+    go (writes table (refused n)) is = refl
+    go (uses (answered us)) is = absurd (true≢false (sym is))
     go (uses (refused n)) is = refl
     go reads is = refl
 
 -- ---- open twice is open once, also where it refuses
 
-pub open-twice : (b : Set) → opened (opened b) ≡ opened b
-open-twice b = go (openGiven ieee ORIGINS b) refl
+pub open-twice : (t : List Float) (b : Set) → opened t (opened t b .set) ≡ opened t b
+open-twice t b = go (openGiven ieee t b) refl
   where
     -- the newly opened set stays what it is, by whatever open gives on it
-    again : (g : Given (Unit {0})) → after fresh (writes g) ≡ fresh
+    again : (g : Given (Unit {0})) → after (standing t (fresh t)) (writes t g) ≡ standing t (fresh t)
     again (answered u) = refl
     again (refused n) = refl
 
-    go : (g : Given (Unit {0})) → openGiven ieee ORIGINS b ≡ g → step (after b (writes g)) opens ≡ after b (writes g)
-    go (answered u) e = again (openGiven ieee ORIGINS fresh)
+    go : (g : Given (Unit {0})) → openGiven ieee t b ≡ g → opened t (after (standing t b) (writes t g) .set) ≡ after (standing t b) (writes t g)
+    go (answered u) e = again (openGiven ieee t (fresh t))
     go (refused n) e = rw e
 
 -- open answers only where the frame has its rows
-rows-long : (b : Set) → openGiven ieee ORIGINS b ≡ passed → length (frameRows ieee ORIGINS) ≡ FRAME
+rows-long : (t : List Float) (b : Set) → openGiven ieee t b ≡ passed → (checkTable ieee t ≡ passed) × (length (frameRows ieee t) ≡ FRAME)
 unfolding openGiven
-rows-long b e =
-    let p = then-answered (checkSet b) _ tt e in
-    let q = refuse-answered (not (eqb (length (frameRows ieee ORIGINS)) FRAME)) 7 _ tt (p .1) in
-    eqb-true _ FRAME (not-false _ (q .0))
+rows-long t b e =
+    let set = then-answered (checkSet b) _ tt e in
+    let table = then-answered (checkTable ieee t) _ tt (set .1) in
+    let rows = refuse-answered (not (eqb (length (frameRows ieee t)) FRAME)) 7 _ tt (table .1) in
+    (table .0, eqb-true _ FRAME (not-false _ (rows .0)))
 
-fresh-passes : length (frameRows ieee ORIGINS) ≡ FRAME → checkSet fresh ≡ passed
+fresh-passes : (t : List Float) → length (frameRows ieee t) ≡ FRAME → checkSet (fresh t) ≡ passed
 unfolding checkSet
-fresh-passes l = rw l
+fresh-passes t l = rw l
 
 -- and where the first open answers, so does the second
-pub open-answers-again : (b : Set) → openGiven ieee ORIGINS b ≡ passed → openGiven ieee ORIGINS (opened b) ≡ passed
-open-answers-again b e =
-    let l = rows-long b e in
-    rw e (open-opened ieee ORIGINS fresh (fresh-passes l) l)
+pub open-answers-again : (t : List Float) (b : Set) → openGiven ieee t b ≡ passed → openGiven ieee t (opened t b .set) ≡ passed
+open-answers-again t b e =
+    let known = rows-long t b e in
+    rw e (open-opened ieee t (fresh t) (rw (fresh-passes t (known .1)) (known .0)) (known .1))
 
 -- ---- one answered call on a newly opened set
 
-module _ (b : Set) (ready : openGiven ieee ORIGINS b ≡ passed) (c : Call) (u : Used) (is : effect (opened b) c ≡ uses (answered u)) where
-  on : UsedOn (opened b) u
-  on = subst (EffectOn (opened b)) is (effect-fits (opened b) c) u refl
+module _ (t : List Float) (b : Set) (ready : openGiven ieee t b ≡ passed) (c : Call) (u : Used)
+    (is : effect (opened t b) c ≡ uses (answered (u ∷ []))) where
+  on : UsedOn (opened t b .table) (opened t b .set) u
+  on = subst (EffectOn (opened t b)) is (effect-fits (opened t b) c) (u ∷ []) refl .0
 
-  one-since : sinceOpen b (c ∷ []) ≡ counted (newly (opened b)) (uses (answered u)) (opened b)
+  one-since : sinceOpen t b (c ∷ []) ≡ counted (newly (opened t b)) (uses (answered (u ∷ []))) (opened t b)
   one-since = rw is
 
-  faces-filled : count FACE-SLOTS (λ k. filled (left b (c ∷ []) .faces) (k * FACE-WIDTH)) ≡ cond (u .reflected) 2 1
+  faces-filled : count FACE-SLOTS (λ k. filled (left t b (c ∷ []) .set .faces) (k * FACE-WIDTH)) ≡ cond (u .reflected) 2 1
   faces-filled =
       count-same FACE-SLOTS _ (facesAt (u .index) (u .reflected))
-      (λ k h. face-mark b ready (c ∷ []) k h ∙ ap (λ (w : Since). w .faces k) one-since)
+      (λ k h. face-mark t b ready (c ∷ []) k h ∙ ap (λ (w : Since). w .faces k) one-since ∙ or-false (facesAt (u .index) (u .reflected) k))
       ∙ count-faces (u .index) (u .reflected) (on .index)
 
-  sphere-filled : count SPHERE-SLOTS (λ k. filled (left b (c ∷ []) .spheres) (k * SPHERE-WIDTH)) ≡ 1
+  sphere-filled : count SPHERE-SLOTS (λ k. filled (left t b (c ∷ []) .set .spheres) (k * SPHERE-WIDTH)) ≡ 1
   sphere-filled =
-      count-same SPHERE-SLOTS _ (λ k. eqb k (sphereSlot (u .origin) (u .index) (u .reflected)))
-      (λ k h. sphere-mark b ready (c ∷ []) k h ∙ ap (λ (w : Since). w .spheres k) one-since)
+      let slot = sphereSlot (u .origin) (u .index) (u .reflected) in
+      count-same SPHERE-SLOTS _ (λ k. eqb k slot)
+      (λ k h. sphere-mark t b ready (c ∷ []) k h ∙ ap (λ (w : Since). w .spheres k) one-since ∙ or-false (eqb k slot))
       ∙ count-one SPHERE-SLOTS _ (sphere-below (u .origin) (u .index) (u .reflected) (on .origin) (on .index))
 
   -- one face slot and one sphere slot, or two face slots and one sphere slot
-  pub one-call : filledSlots (left b (c ∷ [])) ≡ cond (u .reflected) 3 2
+  pub one-call : filledSlots (left t b (c ∷ []) .set) ≡ cond (u .reflected) 3 2
   one-call = ap₂ (λ (m n : ℕ). m + n) faces-filled sphere-filled ∙ go (u .reflected)
     where
       go : (r : Bool) → cond r 2 1 + 1 ≡ cond r 3 2
       go true = refl
       go false = refl
 
-pub one-unplace : (b : Set) → openGiven ieee ORIGINS b ≡ passed → (f : Face) (o : ℕ) (w : Work LonLat) → unplaceGiven ieee ORIGINS (opened b) f o ≡ answered w
-    → filledSlots (left b (unplaces f o ∷ [])) ≡ cond (w .used .reflected) 3 2
-one-unplace b ready f o w e = one-call b ready (unplaces f o) (w .used) (ap (λ (g : Given (Work LonLat)). uses (usedOf g)) e)
+pub one-unplace : (t : List Float) (b : Set) → openGiven ieee t b ≡ passed → (f : Face) (o : ℕ) (w : Work LonLat)
+    → unplaceGiven ieee (opened t b .table) (opened t b .set) f o ≡ answered w
+    → filledSlots (left t b (unplaces f o ∷ []) .set) ≡ cond (w .used .reflected) 3 2
+one-unplace t b ready f o w e = one-call t b ready (unplaces f o) (w .used) (ap (λ (g : Given (Work LonLat)). uses (alone (usedOf g))) e)
 
 -- ---- place, then show
 
-since-then : (w : Since) (s : Set) (cs ds : List Call) → since w s (cs ++ ds) ≡ since (since w s cs) (run s cs) ds
+since-then : (w : Since) (s : Standing) (cs ds : List Call) → since w s (cs ++ ds) ≡ since (since w s cs) (run s cs) ds
 since-then w s [] ds = refl
 since-then w s (c ∷ cs) ds = since-then (counted w (effect s c) (step s c)) (step s c) cs ds
 
@@ -128,36 +133,37 @@ uses-face : (i : ℕ) (r : Bool) → facesAt i r (faceSlot i r) ≡ true
 uses-face i false = eq-eqb i i refl
 uses-face i true = rw (eq-eqb (i + 10) (i + 10) refl)
 
-module _ (b : Set) (ready : openGiven ieee ORIGINS b ≡ passed) (cs : List Call) (p : LonLat) (w : Work Place)
-    (answers : placeGiven ieee ORIGINS (left b cs) p ≡ answered w) where
+module _ (t : List Float) (b : Set) (ready : openGiven ieee t b ≡ passed) (cs : List Call) (p : LonLat) (w : Work Place)
+    (answers : placeGiven ieee (left t b cs .table) (left t b cs .set) p ≡ answered w) where
   abbrev whole : List Call
   whole = cs ++ places p ∷ []
 
   abbrev u : Used
   u = w .used
 
-  is : effect (left b cs) (places p) ≡ uses (answered u)
-  is = ap (λ (g : Given (Work Place)). uses (usedOf g)) answers
+  is : effect (left t b cs) (places p) ≡ uses (answered (u ∷ []))
+  is = ap (λ (g : Given (Work Place)). uses (alone (usedOf g))) answers
 
-  used-on : UsedOn (left b cs) u
-  used-on = subst (EffectOn (left b cs)) is (effect-fits (left b cs) (places p)) u refl
+  used-on : UsedOn (left t b cs .table) (left t b cs .set) u
+  used-on = subst (EffectOn (left t b cs)) is (effect-fits (left t b cs) (places p)) (u ∷ []) refl .0
 
-  whole-since : sinceOpen b whole ≡ counted (sinceOpen b cs) (uses (answered u)) (left b cs)
+  whole-since : sinceOpen t b whole ≡ counted (sinceOpen t b cs) (uses (answered (u ∷ []))) (left t b cs)
   whole-since =
-      since-then (newly (opened b)) (opened b) cs (places p ∷ [])
-      ∙ ap (λ (e : Effect). counted (sinceOpen b cs) e (step (left b cs) (places p))) is
+      since-then (newly (opened t b)) (opened t b) cs (places p ∷ [])
+      ∙ ap (λ (e : Effect). counted (sinceOpen t b cs) e (step (left t b cs) (places p))) is
 
   -- the face triangle of the point, by its definition
-  pub place-shows-face : let k = faceSlot (u .index) (u .reflected) in shownOn (left b whole) kind.Face k ≡ faceRun (faceTriangle ieee k)
+  pub place-shows-face : let k = faceSlot (u .index) (u .reflected) in shownOn (left t b whole .set) kind.Face k ≡ faceRun (faceTriangle ieee k)
   place-shows-face =
       let k = faceSlot (u .index) (u .reflected) in
-      face-shown b ready whole k (face-below (u .index) (u .reflected) (used-on .index))
-      (ap (λ (v : Since). v .faces k) whole-since ∙ rw (uses-face (u .index) (u .reflected)) (or-true (sinceOpen b cs .faces k)))
+      face-shown t b ready whole k (face-below (u .index) (u .reflected) (used-on .index))
+      (ap (λ (v : Since). v .faces k) whole-since ∙ rw (uses-face (u .index) (u .reflected)) (or-true (sinceOpen t b cs .faces k)))
 
   -- the sphere triangle of its slot, by its definition
   pub place-shows-sphere : let k = sphereSlot (u .origin) (u .index) (u .reflected) in
-      (t : SphericalTriangle) × (sphereDefined (lastOpen b whole .frame) k ≡ answered t) × (shownOn (left b whole) kind.Sphere k ≡ triangleRun t)
+      (d : SphericalTriangle) × (sphereDefined (lastOpen t b whole .table) (lastOpen t b whole .set .frame) k ≡ answered d)
+      × (shownOn (left t b whole .set) kind.Sphere k ≡ triangleRun d)
   place-shows-sphere =
       let k = sphereSlot (u .origin) (u .index) (u .reflected) in
-      sphere-shown b ready whole k (sphere-below (u .origin) (u .index) (u .reflected) (used-on .origin) (used-on .index))
-      (ap (λ (v : Since). v .spheres k) whole-since ∙ rw (eq-eqb k k refl) (or-true (sinceOpen b cs .spheres k)))
+      sphere-shown t b ready whole k (sphere-below (u .origin) (u .index) (u .reflected) (used-on .origin) (used-on .index))
+      (ap (λ (v : Since). v .spheres k) whole-since ∙ rw (eq-eqb k k refl) (or-true (sinceOpen t b cs .spheres k)))

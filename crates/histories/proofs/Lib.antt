@@ -13,3 +13,5 @@ pub mod Shown
 pub mod Counts
 pub mod Consequences
 pub mod SineArguments
+pub mod BuiltIn
+pub mod Alone

@@ -1,29 +1,28 @@
 -- "No call but open writes to the set outside the slots it uses": whatever the buffers hold. Assumes nothing.
 use mathlib.Core.Path.{_≡_, refl, _∙_}
 use mathlib.Core.Bool.{Bool, true, false, _||_, true≢false}
-use mathlib.Core.List.{List}
+use mathlib.Core.List.{List, [], _∷_}
 use Prim.Native.Nat.{ℕ, _+_, _/_, _<_}
 use native.Mathlib.Omega.{arith}
 use lib.ListN.{length, getD}
 use lib.Ieee.{Float, nan}
 use borrow.Author.Tests.{eqb-false}
-use Rattle.answer.specs.Given.{Given, answered, refused}
+use Rattle.answer.specs.Given.{answered, refused}
 use Rattle.arithmetic.specs.Arith.{ieee}
 use Rattle.set.specs.Sizes.{FACE-SLOTS, FACE-WIDTH, FACE-STORE, SPHERE-WIDTH}
 use Rattle.stores.specs.Slots.{sphereRun}
 use Rattle.stores.specs.Slots.{sphereSlot}
-use Rattle.stores.specs.Used.{faceWritten, facesWritten, sphereWritten}
+use Rattle.stores.specs.Used.{faceWritten, facesWritten, sphereWritten, usedWritten, allWritten}
 use Rattle.stores.specs.declared.used.Used.{Used}
 use Rattle.set.specs.Set.{Set}
-use Rattle.dodecahedron.specs.Work.{setUsed}
-use Rattle.histories.specs.Lists.{Call, opens, forwards, inverses, places, unplaces, shows, asks, Effect, writes, uses, reads, effect}
-use Rattle.histories.specs.Since.{facesAt, facesOf, spheresOf}
+use Rattle.histories.specs.Lists.{Standing, Call, opens, forwards, inverses, places, unplaces, shows, asks, Effect, writes, uses, reads, effect}
+use Rattle.histories.specs.Since.{facesAt, facesIn, spheresAt, spheresIn}
 use Rattle.histories.specs.EveryList.{Untouched}
 use Rattle.histories.proofs.Runs.{other-place}
 use Rattle.histories.proofs.Stores.{written-length, written-outside}
 use Rattle.stores.proofs.Within.{sphere-below}
 use Rattle.histories.proofs.Taken.{faceCoordinates}
-use Rattle.histories.proofs.Uses.{EffectOn, effect-fits}
+use Rattle.histories.proofs.Uses.{UsedOn, UsedAll, EffectOn, effect-fits}
 
 neither : (a b : Bool) → (a || b) ≡ false → (a ≡ false) × (b ≡ false)
 neither true b e = absurd (true≢false e)
@@ -59,12 +58,12 @@ module _ (xs : List Float) (l : length xs ≡ FACE-STORE) (i : ℕ) (h : i < 10)
 -- ---- a call that is not open
 
 abbrev isOpens : Effect → Bool
-isOpens (writes g) = true
+isOpens (writes table g) = true
 isOpens (uses g) = false
 isOpens reads = false
 
-not-open : (s : Set) (c : Call) → (c ≡ opens → ⊥) → isOpens (effect s c) ≡ false
-not-open s opens other = absurd (other refl)
+not-open : (s : Standing) (c : Call) → ((table : List Float) → c ≡ opens table → ⊥) → isOpens (effect s c) ≡ false
+not-open s (opens table) other = absurd (other table refl)
 not-open s (forwards p o) other = refl
 not-open s (inverses f o) other = refl
 not-open s (places p) other = refl
@@ -77,21 +76,32 @@ record Kept (width : ℕ) (used : ℕ → Bool) (before after : List Float) : Ty
   pub long : length after ≡ length before
   pub outside : (i : ℕ) → used (i / width) ≡ false → getD after i nan ≡ getD before i nan
 
-module _ (s : Set) where
-  faces-kept : (g : Given Used) → EffectOn s (uses g) → Kept FACE-WIDTH (facesOf g) (s .faces) (setUsed ieee s g .faces)
-  faces-kept (refused n) fits = record { long = refl; outside = λ i e. refl }
-  faces-kept (answered u) fits =
-      let on = fits u refl in
-      record {
-        long = faces-length (s .faces) (on .fits .faces) (u .index) (on .index) (u .reflected);
-        outside = faces-outside (s .faces) (on .fits .faces) (u .index) (on .index) (u .reflected);
-      }
+-- what is kept twice is kept, of the slots of both
+kept-twice : (width : ℕ) (used more : ℕ → Bool) (xs ys zs : List Float) → Kept width used xs ys → Kept width more ys zs
+    → Kept width (λ k. used k || more k) xs zs
+kept-twice width used more xs ys zs first second =
+    record {
+      long = second .long ∙ first .long;
+      outside = λ i e.
+          let none = neither (used (i / width)) (more (i / width)) e in
+          second .outside i (none .1) ∙ first .outside i (none .0);
+    }
 
-  spheres-kept : (g : Given Used) → EffectOn s (uses g) → Kept SPHERE-WIDTH (spheresOf g) (s .spheres) (setUsed ieee s g .spheres)
+module _ (table : List Float) where
+  faces-kept : (us : List Used) (s : Set) → UsedAll table s us → Kept FACE-WIDTH (facesIn us) (s .faces) (allWritten ieee s us .faces)
+  faces-kept [] s on = record { long = refl; outside = λ i e. refl }
+  faces-kept (u ∷ us) s on =
+      kept-twice FACE-WIDTH (facesAt (u .index) (u .reflected)) (facesIn us) (s .faces) (facesWritten ieee (s .faces) (u .index) (u .reflected)) _
+      (record {
+        long = faces-length (s .faces) (on .0 .fits .faces) (u .index) (on .0 .index) (u .reflected);
+        outside = faces-outside (s .faces) (on .0 .fits .faces) (u .index) (on .0 .index) (u .reflected);
+      })
+      (faces-kept us (usedWritten ieee s u) (on .1))
+
+  sphere-kept : (s : Set) (u : Used) → UsedOn table s u
+      → Kept SPHERE-WIDTH (spheresAt (u .origin) (u .index) (u .reflected)) (s .spheres) (sphereWritten (s .spheres) u)
   unfolding sphereWritten
-  spheres-kept (refused n) fits = record { long = refl; outside = λ i e. refl }
-  spheres-kept (answered u) fits =
-      let on = fits u refl in
+  sphere-kept s u on =
       let k = sphereSlot (u .origin) (u .index) (u .reflected) in
       let run = sphereRun (u .triangle) (u .bxc) in
       let below = sphere-below (u .origin) (u .index) (u .reflected) (on .origin) (on .index) in
@@ -103,24 +113,34 @@ module _ (s : Set) where
             written-outside SPHERE-WIDTH (s .spheres) k run refl (omega (arith, below, long)) i other;
       }
 
-  uses-frame : (g : Given Used) → setUsed ieee s g .frame ≡ s .frame
-  uses-frame (refused n) = refl
-  uses-frame (answered u) = refl
+  spheres-kept : (us : List Used) (s : Set) → UsedAll table s us → Kept SPHERE-WIDTH (spheresIn us) (s .spheres) (allWritten ieee s us .spheres)
+  spheres-kept [] s on = record { long = refl; outside = λ i e. refl }
+  spheres-kept (u ∷ us) s on =
+      kept-twice SPHERE-WIDTH (spheresAt (u .origin) (u .index) (u .reflected)) (spheresIn us) (s .spheres) (sphereWritten (s .spheres) u) _
+      (sphere-kept s u (on .0))
+      (spheres-kept us (usedWritten ieee s u) (on .1))
 
-  by-effect : (e : Effect) → EffectOn s e → isOpens e ≡ false → Untouched s e
-  by-effect (writes g) fits is = absurd (true≢false is)
-  by-effect (uses g) fits is =
-      let faces = faces-kept g fits in
-      let spheres = spheres-kept g fits in
-      record {
-        frame = uses-frame g;
-        face-length = faces .long;
-        face = faces .outside;
-        sphere-length = spheres .long;
-        sphere = spheres .outside;
-      }
-  by-effect reads fits is =
-      record { frame = refl; face-length = refl; face = λ i e. refl; sphere-length = refl; sphere = λ i e. refl }
+frame-kept : (us : List Used) (s : Set) → allWritten ieee s us .frame ≡ s .frame
+frame-kept [] s = refl
+frame-kept (u ∷ us) s = frame-kept us (usedWritten ieee s u)
 
-  pub untouched : (c : Call) → (c ≡ opens → ⊥) → Untouched s (effect s c)
-  untouched c other = by-effect (effect s c) (effect-fits s c) (not-open s c other)
+by-effect : (s : Standing) (e : Effect) → EffectOn s e → isOpens e ≡ false → Untouched s e
+by-effect s (writes table g) fits is = absurd (true≢false is)
+by-effect s (uses (refused n)) fits is =
+    record { table = refl; frame = refl; face-length = refl; face = λ i e. refl; sphere-length = refl; sphere = λ i e. refl }
+by-effect s (uses (answered us)) fits is =
+    let faces = faces-kept (s .table) us (s .set) (fits us refl) in
+    let spheres = spheres-kept (s .table) us (s .set) (fits us refl) in
+    record {
+      table = refl;
+      frame = frame-kept us (s .set);
+      face-length = faces .long;
+      face = faces .outside;
+      sphere-length = spheres .long;
+      sphere = spheres .outside;
+    }
+by-effect s reads fits is =
+    record { table = refl; frame = refl; face-length = refl; face = λ i e. refl; sphere-length = refl; sphere = λ i e. refl }
+
+pub untouched : (s : Standing) (c : Call) → ((table : List Float) → c ≡ opens table → ⊥) → Untouched s (effect s c)
+untouched s c other = by-effect s (effect s c) (effect-fits s c) (not-open s c other)

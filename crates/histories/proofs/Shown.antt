@@ -21,7 +21,6 @@ use Rattle.show.specs.declared.StoreKind.{StoreKind}
 use Rattle.show.specs.declared.StoreKind.the-variants as kind
 use Rattle.set.specs.Set.{Set}
 use Rattle.set.specs.Open.{openGiven}
-use Rattle.origin.specs.Origins.{ORIGINS}
 use Rattle.histories.specs.Lists.{Call}
 use Rattle.histories.specs.Defined.{sphereDefined}
 use Rattle.histories.specs.EveryList.{left, lastOpen}
@@ -47,33 +46,37 @@ part-is : (s : Set) (which : StoreKind) (k : ℕ) (b : Bool) → stateOn s which
 unfolding partShown
 part-is s which k b e = rw e
 
-module _ (b : Set) (ready : openGiven ieee ORIGINS b ≡ passed) (cs : List Call) where
-  pub face-state : (k : ℕ) → k < FACE-SLOTS → stateOn (left b cs) kind.Face k ≡ answered (sinceOpen b cs .faces k)
-  face-state k h =
-      let good = good-left b ready cs in
-      state-is (left b cs) kind.Face k _ (good .face-long) (good .sphere-long) h (face-mark b ready cs k h)
+module _ (t : List Float) (b : Set) (ready : openGiven ieee t b ≡ passed) (cs : List Call) where
+  abbrev now : Set
+  now = left t b cs .set
 
-  pub sphere-state : (k : ℕ) → k < SPHERE-SLOTS → stateOn (left b cs) kind.Sphere k ≡ answered (sinceOpen b cs .spheres k)
+  pub face-state : (k : ℕ) → k < FACE-SLOTS → stateOn now kind.Face k ≡ answered (sinceOpen t b cs .faces k)
+  face-state k h =
+      let good = good-left t b ready cs in
+      state-is now kind.Face k _ (good .face-long) (good .sphere-long) h (face-mark t b ready cs k h)
+
+  pub sphere-state : (k : ℕ) → k < SPHERE-SLOTS → stateOn now kind.Sphere k ≡ answered (sinceOpen t b cs .spheres k)
   sphere-state k h =
-      let good = good-left b ready cs in
-      state-is (left b cs) kind.Sphere k _ (good .face-long) (good .sphere-long) h (sphere-mark b ready cs k h)
+      let good = good-left t b ready cs in
+      state-is now kind.Sphere k _ (good .face-long) (good .sphere-long) h (sphere-mark t b ready cs k h)
 
   -- a used slot's part is the triangle defined for it, without b × c
-  pub face-shown : (k : ℕ) → k < FACE-SLOTS → sinceOpen b cs .faces k ≡ true → shownOn (left b cs) kind.Face k ≡ faceRun (faceTriangle ieee k)
+  pub face-shown : (k : ℕ) → k < FACE-SLOTS → sinceOpen t b cs .faces k ≡ true → shownOn now kind.Face k ≡ faceRun (faceTriangle ieee k)
   face-shown k h u =
-      part-is (left b cs) kind.Face k true (face-state k h ∙ ap answered u)
-      ∙ slot-part FACE-WIDTH (left b cs .faces) k (omega arith) 1 FACE-COORDINATES _ (omega arith) (face-slot b ready cs k true h u)
+      part-is now kind.Face k true (face-state k h ∙ ap answered u)
+      ∙ slot-part FACE-WIDTH (now .faces) k (omega arith) 1 FACE-COORDINATES _ (omega arith) (face-slot t b ready cs k true h u)
 
-  pub sphere-shown : (k : ℕ) → k < SPHERE-SLOTS → sinceOpen b cs .spheres k ≡ true
-      → (t : SphericalTriangle) × (sphereDefined (lastOpen b cs .frame) k ≡ answered t) × (shownOn (left b cs) kind.Sphere k ≡ triangleRun t)
+  pub sphere-shown : (k : ℕ) → k < SPHERE-SLOTS → sinceOpen t b cs .spheres k ≡ true
+      → (d : SphericalTriangle) × (sphereDefined (lastOpen t b cs .table) (lastOpen t b cs .set .frame) k ≡ answered d)
+      × (shownOn now kind.Sphere k ≡ triangleRun d)
   sphere-shown k h u =
-      let t = sphere-triangle b ready cs k h u in
-      let part = part-is (left b cs) kind.Sphere k true (sphere-state k h ∙ ap answered u) in
-      (t .0, t .1, part ∙ slot-part SPHERE-WIDTH (left b cs .spheres) k (omega arith) 1 SPHERE-COORDINATES _ (omega arith) (t .2))
+      let held = sphere-triangle t b ready cs k h u in
+      let part = part-is now kind.Sphere k true (sphere-state k h ∙ ap answered u) in
+      (held .0, held .1, part ∙ slot-part SPHERE-WIDTH (now .spheres) k (omega arith) 1 SPHERE-COORDINATES _ (omega arith) (held .2))
 
   -- and any other's is empty
-  pub face-not-shown : (k : ℕ) → k < FACE-SLOTS → sinceOpen b cs .faces k ≡ false → shownOn (left b cs) kind.Face k ≡ []
-  face-not-shown k h u = part-is (left b cs) kind.Face k false (face-state k h ∙ ap answered u)
+  pub face-not-shown : (k : ℕ) → k < FACE-SLOTS → sinceOpen t b cs .faces k ≡ false → shownOn now kind.Face k ≡ []
+  face-not-shown k h u = part-is now kind.Face k false (face-state k h ∙ ap answered u)
 
-  pub sphere-not-shown : (k : ℕ) → k < SPHERE-SLOTS → sinceOpen b cs .spheres k ≡ false → shownOn (left b cs) kind.Sphere k ≡ []
-  sphere-not-shown k h u = part-is (left b cs) kind.Sphere k false (sphere-state k h ∙ ap answered u)
+  pub sphere-not-shown : (k : ℕ) → k < SPHERE-SLOTS → sinceOpen t b cs .spheres k ≡ false → shownOn now kind.Sphere k ≡ []
+  sphere-not-shown k h u = part-is now kind.Sphere k false (sphere-state k h ∙ ap answered u)

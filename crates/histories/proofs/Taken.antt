@@ -16,7 +16,7 @@ use Rattle.arithmetic.specs.Numbers.{0·0, 1·0}
 use Rattle.coordinates.specs.Vector.{cross}
 use Rattle.coordinates.specs.declared.coords.Cartesian.{Cartesian}
 use Rattle.coordinates.specs.declared.coords.SphericalTriangle.{SphericalTriangle}
-use Rattle.origin.specs.Origins.{ORIGINS, originAt}
+use Rattle.origin.specs.Origins.{originAt}
 use Rattle.tiling.specs.FaceTriangles.{faceTriangle}
 use Rattle.crs.specs.Frame.{frameRows}
 use Rattle.set.specs.Sizes.{FACE-SLOTS, FACE-COORDINATES, FACE-WIDTH, FACE-STORE}
@@ -27,6 +27,7 @@ use Rattle.stores.proofs.Within.{sphere-below}
 use Rattle.set.specs.Open.{newSet}
 use Rattle.triangles.specs.Triangles.{faceTaken, sphereBuilt, sphereTaken, crossTaken}
 use Rattle.set.specs.Set.{Set}
+use Rattle.histories.specs.Lists.{standing}
 use Rattle.histories.specs.Defined.{sphereDefined, slotAt}
 use Rattle.histories.proofs.Runs.{length-run, run-replicate}
 use Rattle.histories.proofs.Told.{Since, newly}
@@ -42,25 +43,25 @@ abbrev pub runOf : Given SphericalTriangle → List Float
 runOf (answered t) = sphereRun t (cross ieee (t .b) (t .c))
 runOf (refused n) = []
 
-abbrev pub sphereCoordinates : List Float → ℕ → List Float
-sphereCoordinates frame k = runOf (sphereDefined frame k)
+abbrev pub sphereCoordinates : List Float → List Float → ℕ → List Float
+sphereCoordinates table frame k = runOf (sphereDefined table frame k)
 
 -- ---- the set after every list
 
-pub record Good (w : Since) (s : Set) : Type 0 where
-  pub rows : w .frame ≡ frameRows ieee ORIGINS
+pub record Good (table : List Float) (w : Since) (s : Set) : Type 0 where
+  pub rows : w .frame ≡ frameRows ieee table
   pub frame : s .frame ≡ w .frame
   pub face-long : length (s .faces) ≡ FACE-STORE
   pub sphere-long : length (s .spheres) ≡ SPHERE-STORE
   pub face : Holds FACE-WIDTH FACE-SLOTS faceCoordinates (w .faces) (s .faces)
-  pub sphere : Holds SPHERE-WIDTH SPHERE-SLOTS (sphereCoordinates (w .frame)) (w .spheres) (s .spheres)
+  pub sphere : Holds SPHERE-WIDTH SPHERE-SLOTS (sphereCoordinates table (w .frame)) (w .spheres) (s .spheres)
 
 -- a newly opened set
-abbrev pub fresh : Set
-fresh = newSet ieee ORIGINS
+abbrev pub fresh : List Float → Set
+fresh table = newSet ieee table
 
-pub fresh-good : Good (newly fresh) fresh
-fresh-good =
+pub fresh-good : (table : List Float) → Good table (newly (standing table (fresh table))) (fresh table)
+fresh-good table =
     record {
       rows = refl;
       frame = refl;
@@ -73,16 +74,16 @@ fresh-good =
 -- ---- slot numbers
 
 -- a sphere slot's number tells its origin, its index and whether it is reflected
-pub slot-defined : (frame : List Float) (o i : ℕ) (r : Bool) → o < 12 → i < 10
-    → sphereDefined frame (sphereSlot o i r) ≡ sphereBuilt ieee frame (originAt ORIGINS o) (faceTriangle ieee (sourceSlot i r))
+pub slot-defined : (table frame : List Float) (o i : ℕ) (r : Bool) → o < 12 → i < 10
+    → sphereDefined table frame (sphereSlot o i r) ≡ sphereBuilt ieee frame (originAt table o) (faceTriangle ieee (sourceSlot i r))
 unfolding sphereDefined
-slot-defined frame o i true g h =
+slot-defined table frame o i true g h =
     let k = o * 10 + i + 120 in
     let a : k % 10 ≡ i = omega arith in
     let b : k % 120 / 10 ≡ o = omega arith in
     let c : leb 120 k ≡ true = le-leb 120 k (omega arith) in
     rw (a, b, c)
-slot-defined frame o i false g h =
+slot-defined table frame o i false g h =
     let k = o * 10 + i in
     let a : k % 10 ≡ i = omega arith in
     let b : k % 120 / 10 ≡ o = omega arith in
@@ -91,7 +92,7 @@ slot-defined frame o i false g h =
 
 -- ---- what a call takes
 
-module _ (w : Since) (s : Set) (good : Good w s) where
+module _ (table : List Float) (w : Since) (s : Set) (good : Good table w s) where
   -- the slot's number may be any
   pub face-taken : (k : ℕ) → faceTaken ieee (s .faces) k ≡ faceTriangle ieee k
   unfolding faceTaken
@@ -102,7 +103,8 @@ module _ (w : Since) (s : Set) (good : Good w s) where
 
       inside : (b : Bool) → slotAt FACE-WIDTH (s .faces) k ≡ slotOf b FACE-WIDTH (faceCoordinates k) → taken (filled (s .faces) (k * FACE-WIDTH))
       inside true e =
-          rw (slot-filled FACE-WIDTH (s .faces) k (omega arith) true _ e) (ap faceIn (slot-part FACE-WIDTH (s .faces) k (omega arith) 1 FACE-COORDINATES _ (omega arith) e))
+          rw (slot-filled FACE-WIDTH (s .faces) k (omega arith) true _ e)
+          (ap faceIn (slot-part FACE-WIDTH (s .faces) k (omega arith) 1 FACE-COORDINATES _ (omega arith) e))
       inside false e = rw (slot-filled FACE-WIDTH (s .faces) k (omega arith) false (faceCoordinates k) e)
 
       by : Dec (k < FACE-SLOTS) → taken (filled (s .faces) (k * FACE-WIDTH))
@@ -110,7 +112,7 @@ module _ (w : Since) (s : Set) (good : Good w s) where
       by (no g) = rw (beyond-empty (s .faces) (k * FACE-WIDTH) (omega (arith, good .face-long)))
 
   pub sphere-taken : (o i : ℕ) (r : Bool) → o < 12 → i < 10
-      → sphereTaken ieee s (originAt ORIGINS o) (sphereSlot o i r) (sourceSlot i r) ≡ sphereDefined (w .frame) (sphereSlot o i r)
+      → sphereTaken ieee s (originAt table o) (sphereSlot o i r) (sourceSlot i r) ≡ sphereDefined table (w .frame) (sphereSlot o i r)
   unfolding sphereTaken
   sphere-taken o i r g h = go (w .spheres k) (good .sphere k below)
     where
@@ -121,10 +123,10 @@ module _ (w : Since) (s : Set) (good : Good w s) where
       below = sphere-below o i r g h
 
       built : Given SphericalTriangle
-      built = sphereBuilt ieee (s .frame) (originAt ORIGINS o) (faceTaken ieee (s .faces) (sourceSlot i r))
+      built = sphereBuilt ieee (s .frame) (originAt table o) (faceTaken ieee (s .faces) (sourceSlot i r))
 
-      built-is : built ≡ sphereDefined (w .frame) k
-      built-is = rw (good .frame, face-taken (sourceSlot i r)) (sym (slot-defined (w .frame) o i r g h))
+      built-is : built ≡ sphereDefined table (w .frame) k
+      built-is = rw (good .frame, face-taken (sourceSlot i r)) (sym (slot-defined table (w .frame) o i r g h))
 
       held : Given SphericalTriangle
       held = answered (sphereIn (run (s .spheres) (k * SPHERE-WIDTH + 1) SPHERE-COORDINATES))
@@ -137,14 +139,14 @@ module _ (w : Since) (s : Set) (good : Good w s) where
           ap (λ (l : List Float). answered (sphereIn l)) (slot-part SPHERE-WIDTH (s .spheres) k (omega arith) 1 SPHERE-COORDINATES _ (omega arith) e)
       read (refused n) e = absurd (omega (arith, ap length e, long))
 
-      go : (b : Bool) → slotAt SPHERE-WIDTH (s .spheres) k ≡ slotOf b SPHERE-WIDTH (sphereCoordinates (w .frame) k)
-          → cond (filled (s .spheres) (k * SPHERE-WIDTH)) held built ≡ sphereDefined (w .frame) k
-      go true e = rw (slot-filled SPHERE-WIDTH (s .spheres) k (omega arith) true _ e) (read (sphereDefined (w .frame) k) e)
+      go : (b : Bool) → slotAt SPHERE-WIDTH (s .spheres) k ≡ slotOf b SPHERE-WIDTH (sphereCoordinates table (w .frame) k)
+          → cond (filled (s .spheres) (k * SPHERE-WIDTH)) held built ≡ sphereDefined table (w .frame) k
+      go true e = rw (slot-filled SPHERE-WIDTH (s .spheres) k (omega arith) true _ e) (read (sphereDefined table (w .frame) k) e)
       go false e =
-          rw (slot-filled SPHERE-WIDTH (s .spheres) k (omega arith) false (sphereCoordinates (w .frame) k) e) built-is
+          rw (slot-filled SPHERE-WIDTH (s .spheres) k (omega arith) false (sphereCoordinates table (w .frame) k) e) built-is
 
   -- and b × c is that of the triangle defined for the slot, read or formed
-  pub cross-taken : (k : ℕ) (t : SphericalTriangle) → k < SPHERE-SLOTS → sphereDefined (w .frame) k ≡ answered t
+  pub cross-taken : (k : ℕ) (t : SphericalTriangle) → k < SPHERE-SLOTS → sphereDefined table (w .frame) k ≡ answered t
       → crossTaken ieee (s .spheres) k t ≡ cross ieee (t .b) (t .c)
   unfolding crossTaken
   cross-taken k t h e = go (w .spheres k) (good .sphere k h)
@@ -155,10 +157,10 @@ module _ (w : Since) (s : Set) (good : Good w s) where
       held : Cartesian
       held = vectorIn (run (s .spheres) (k * SPHERE-WIDTH + SPHERE-CROSS) 3)
 
-      go : (b : Bool) → slotAt SPHERE-WIDTH (s .spheres) k ≡ slotOf b SPHERE-WIDTH (sphereCoordinates (w .frame) k)
+      go : (b : Bool) → slotAt SPHERE-WIDTH (s .spheres) k ≡ slotOf b SPHERE-WIDTH (sphereCoordinates table (w .frame) k)
           → cond (filled (s .spheres) (k * SPHERE-WIDTH)) held own ≡ own
       go true f =
           let holds : slotAt SPHERE-WIDTH (s .spheres) k ≡ 1·0 ∷ sphereRun t own = f ∙ ap (λ (d : Given SphericalTriangle). 1·0 ∷ runOf d) e in
           rw (slot-filled SPHERE-WIDTH (s .spheres) k (omega arith) true _ f)
           (ap vectorIn (slot-part SPHERE-WIDTH (s .spheres) k (omega arith) SPHERE-CROSS 3 _ (omega arith) holds))
-      go false f = rw (slot-filled SPHERE-WIDTH (s .spheres) k (omega arith) false (sphereCoordinates (w .frame) k) f)
+      go false f = rw (slot-filled SPHERE-WIDTH (s .spheres) k (omega arith) false (sphereCoordinates table (w .frame) k) f)

@@ -1,7 +1,9 @@
 -- What an answered call tells of the slots that it uses, whatever the buffers hold: they lie in the stores, and the sphere triangle and
 -- b × c are those that the set gives for its slot. A call that joins the list has one clause here, in `effect-fits`. Assumes nothing.
 use mathlib.Core.Path.{_≡_, refl, sym, ap, subst, _∙_}
+use mathlib.Core.List.{List, [], _∷_}
 use Prim.Native.Nat.{ℕ, _<_}
+use lib.Ieee.{Float}
 use Rattle.answer.specs.Given.{Given, answered, refused, passed, andThen}
 use Rattle.answer.proofs.Given.{refused-answers-nothing, then-answered, bind-answered}
 use Rattle.arithmetic.specs.Arith.{ieee}
@@ -10,15 +12,16 @@ use Rattle.coordinates.specs.Conversions.{checkLonLat, checkSpherical, checkFac
 use Rattle.coordinates.specs.declared.lonlat.LonLat.{LonLat}
 use Rattle.coordinates.specs.declared.polar.Polar.{Polar}
 use Rattle.coordinates.specs.declared.spherical.Spherical.{Spherical}
-use Rattle.origin.specs.Origins.{ORIGINS, originAt}
+use Rattle.origin.specs.Origins.{originAt}
 use Rattle.origin.specs.Nearest.{nearestOrigin}
 use Rattle.origin.proofs.LowestNearest.{nearest-is}
 use Rattle.tiling.specs.Index.{triangleIndex, shouldReflect}
 use Rattle.tiling.proofs.Modulo.{index-below-10}
-use Rattle.set.specs.Set.{Set, checkSet}
-use Rattle.set.specs.Checks.{checkCall}
-use Rattle.set.proofs.Lengths.{Fits, set-passed, call-passed}
+use Rattle.set.specs.Set.{Set}
+use Rattle.set.specs.Checks.{checkOrigin, checkWith}
+use Rattle.set.proofs.Lengths.{Fits, with-passed, origin-passed}
 use Rattle.stores.specs.Slots.{sourceSlot, sphereSlot}
+use Rattle.stores.specs.Used.{usedWritten}
 use Rattle.stores.specs.declared.used.Used.{Used}
 use Rattle.triangles.specs.Triangles.{sphereTaken, crossTaken}
 use Rattle.triangles.specs.Taken.{usedFor}
@@ -26,21 +29,31 @@ use Rattle.triangles.proofs.Within.{answered-same}
 use Rattle.dodecahedron.specs.Place.{finitePlace}
 use Rattle.dodecahedron.specs.Work.{Work, usedOf, finish}
 use Rattle.dodecahedron.proofs.Worked.{forward-used, inverse-used}
-use Rattle.dodecahedron.proofs.Ended.{forward-is, inverse-is, place-is, unplace-is}
-use Rattle.histories.specs.Lists.{Call, opens, forwards, inverses, places, unplaces, shows, asks, Effect, writes, uses, reads, effect}
+use Rattle.dodecahedron.proofs.Ended.{testsOn, forward-is, inverse-is, place-is, unplace-is}
+use Rattle.histories.specs.Lists.{Standing, standing, Call, opens, forwards, inverses, places, unplaces, shows, asks, Effect, writes, uses, reads, alone, effect}
 
-pub record UsedOn (s : Set) (u : Used) : Type 0 where
+pub record UsedOn (table : List Float) (s : Set) (u : Used) : Type 0 where
   pub fits : Fits s
   pub origin : u .origin < 12
   pub index : u .index < 10
-  pub taken : sphereTaken ieee s (originAt ORIGINS (u .origin)) (sphereSlot (u .origin) (u .index) (u .reflected)) (sourceSlot (u .index) (u .reflected))
+  pub taken : sphereTaken ieee s (originAt table (u .origin)) (sphereSlot (u .origin) (u .index) (u .reflected)) (sourceSlot (u .index) (u .reflected))
       ≡ answered (u .triangle)
   pub crossed : crossTaken ieee (s .spheres) (sphereSlot (u .origin) (u .index) (u .reflected)) (u .triangle) ≡ u .bxc
 
-abbrev pub EffectOn : Set → Effect → Type 0
-EffectOn s (writes g) = Unit {0}
-EffectOn s (uses g) = (u : Used) → g ≡ answered u → UsedOn s u
+-- of several projections each, on the set that those before have left
+abbrev pub UsedAll : List Float → Set → List Used → Type 0
+UsedAll table s [] = Unit {0}
+UsedAll table s (u ∷ us) = UsedOn table s u × UsedAll table (usedWritten ieee s u) us
+
+abbrev pub EffectOn : Standing → Effect → Type 0
+EffectOn s (writes table g) = Unit {0}
+EffectOn s (uses g) = (us : List Used) → g ≡ answered us → UsedAll (s .table) (s .set) us
 EffectOn s reads = Unit {0}
+
+-- a call that carries one
+pub alone-fits : (s : Standing) (g : Given Used) → ((u : Used) → g ≡ answered u → UsedOn (s .table) (s .set) u) → EffectOn s (uses (alone g))
+alone-fits s (refused n) fits us e = refused-answers-nothing n us e
+alone-fits s (answered u) fits us e = subst (UsedAll (s .table) (s .set)) (answered-same e) (fits u refl, tt)
 
 -- ---- from a call's answer back to its core
 
@@ -57,15 +70,15 @@ finish-used {X} {Y} core f w e =
     let ended = bind-answered (f (worked .0 .answer)) _ w (worked .2) in
     (worked .0, worked .1, ap (λ (x : Work Y). x .used) (answered-same (ended .2)))
 
-module _ (s : Set) (o : ℕ) where
+module _ (table : List Float) (s : Set) (o : ℕ) where
   -- the sphere triangle taken for a polar point, with the slots used
-  used-on : (polar : Polar) (u : Used) → Fits s → o < 12 → usedFor ieee ORIGINS s o polar ≡ answered u → UsedOn s u
+  used-on : (polar : Polar) (u : Used) → Fits s → o < 12 → usedFor ieee (originAt table o) s o polar ≡ answered u → UsedOn table s u
   unfolding usedFor
   used-on polar u fits h e =
       let i = triangleIndex ieee (polar .gamma) in
       let r = shouldReflect ieee polar in
-      let b = bind-answered (sphereTaken ieee s (originAt ORIGINS o) (sphereSlot o i r) (sourceSlot i r)) _ u e in
-      subst (UsedOn s) (answered-same (b .2))
+      let b = bind-answered (sphereTaken ieee s (originAt table o) (sphereSlot o i r) (sourceSlot i r)) _ u e in
+      subst (UsedOn table s) (answered-same (b .2))
       (record { fits = fits; origin = h; index = index-below-10 ieee (polar .gamma); taken = b .1; crossed = refl })
 
   -- what checks that passed tell of the set and the origin
@@ -76,38 +89,49 @@ module _ (s : Set) (o : ℕ) where
   call-fits : {X Y : Type 0} (given : Given (Work Y)) (check : Given (Unit {0})) (core : Given (Work X)) (f : X → Given Y) (polar : Polar)
       → given ≡ andThen check (finish core f)
       → (check ≡ passed → Told)
-      → ((w : Work X) → core ≡ answered w → usedFor ieee ORIGINS s o polar ≡ answered (w .used))
-      → EffectOn s (uses (usedOf given))
-  call-fits given check core f polar is told back u e =
+      → ((w : Work X) → core ≡ answered w → usedFor ieee (originAt table o) s o polar ≡ answered (w .used))
+      → EffectOn (standing table s) (uses (alone (usedOf given)))
+  call-fits given check core f polar is told back =
+      alone-fits (standing table s) (usedOf given) λ u e.
       let work = work-used given u e in
       let passes = then-answered check _ (work .0) (sym is ∙ work .1) in
       let worked = finish-used core f (work .0) (passes .1) in
       let known = told (passes .0) in
       used-on polar u (known .0) (known .1) (back (worked .0) (worked .1) ∙ ap answered (worked .2 ∙ work .2))
 
-  -- 1 to 4, and then the call's own numbers
-  origin-told : (own : Given (Unit {0})) → andThen (checkCall s o) own ≡ passed → Told
-  origin-told own e = call-passed s o (then-answered _ own tt e .0)
+  -- 1, 2, 3, 21, 22 and 4, and then the call's own numbers
+  origin-told : (own : Given (Unit {0})) → andThen (testsOn ieee table s o) own ≡ passed → Told
+  origin-told own e =
+      let tests = then-answered (testsOn ieee table s o) own tt e in
+      let passes = then-answered (checkWith ieee table s) (checkOrigin o) tt (tests .0) in
+      (with-passed ieee table s (passes .0) .0, origin-passed o (passes .1))
 
-  -- 1 to 3, and then the call's own numbers, where the origin is known to be one of the twelve
-  nearest-told : (own : Given (Unit {0})) → o < 12 → andThen (checkSet s) own ≡ passed → Told
-  nearest-told own h e = (set-passed s (then-answered _ own tt e .0), h)
+  -- the same without 4, where the origin is known to be one of the twelve
+  nearest-told : (own : Given (Unit {0})) → o < 12 → andThen (checkWith ieee table s) own ≡ passed → Told
+  nearest-told own h e = (with-passed ieee table s (then-answered (checkWith ieee table s) own tt e .0) .0, h)
 
 -- ---- each call
 
-pub effect-fits : (s : Set) (c : Call) → EffectOn s (effect s c)
-effect-fits s opens = tt
+pub effect-fits : (s : Standing) (c : Call) → EffectOn s (effect s c)
+effect-fits s (opens t) = tt
 effect-fits s (forwards p o) =
-    call-fits s o _ _ _ finiteFace _ (forward-is ieee ORIGINS s p o) (origin-told s o (checkSpherical p)) (forward-used ieee ORIGINS s o p)
+    let origin = originAt (s .table) o in
+    call-fits (s .table) (s .set) o _ _ _ finiteFace _ (forward-is ieee (s .table) (s .set) p o)
+    (origin-told (s .table) (s .set) o (checkSpherical p)) (forward-used ieee origin (s .set) o p)
 effect-fits s (inverses f o) =
-    call-fits s o _ _ _ finiteSpherical _ (inverse-is ieee ORIGINS s f o) (origin-told s o (checkFace f)) (inverse-used ieee ORIGINS s o f)
+    let origin = originAt (s .table) o in
+    call-fits (s .table) (s .set) o _ _ _ finiteSpherical _ (inverse-is ieee (s .table) (s .set) f o)
+    (origin-told (s .table) (s .set) o (checkFace f)) (inverse-used ieee origin (s .set) o f)
 effect-fits s (places p) =
     let q = fromLonLat ieee p in
-    let o = nearestOrigin ieee ORIGINS q in
-    let known = nearest-told s o (checkLonLat p) (nearest-is ieee ORIGINS q .origin) in
-    call-fits s o _ _ _ (finitePlace o) _ (place-is ieee ORIGINS s p q o refl refl) known (forward-used ieee ORIGINS s o q)
+    let o = nearestOrigin ieee (s .table) q in
+    let known = nearest-told (s .table) (s .set) o (checkLonLat p) (nearest-is ieee (s .table) q .origin) in
+    call-fits (s .table) (s .set) o _ _ _ (finitePlace o) _ (place-is ieee (s .table) (s .set) p q o refl refl) known
+    (forward-used ieee (originAt (s .table) o) (s .set) o q)
 effect-fits s (unplaces f o) =
     let ends : Spherical → Given LonLat = λ q. finiteLonLat (toLonLat ieee q) in
-    call-fits s o _ _ _ ends _ (unplace-is ieee ORIGINS s f o) (origin-told s o (checkFace f)) (inverse-used ieee ORIGINS s o f)
+    let origin = originAt (s .table) o in
+    call-fits (s .table) (s .set) o _ _ _ ends _ (unplace-is ieee (s .table) (s .set) f o)
+    (origin-told (s .table) (s .set) o (checkFace f)) (inverse-used ieee origin (s .set) o f)
 effect-fits s (shows kind k) = tt
 effect-fits s (asks kind k) = tt

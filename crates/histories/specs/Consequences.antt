@@ -19,8 +19,8 @@ filledSlots s = count FACE-SLOTS (λ k. filled (s .faces) (k * FACE-WIDTH)) + co
 
 -- the effect of a call that was refused
 abbrev pub isRefused : Effect → Bool
-isRefused (writes (answered u)) = false
-isRefused (writes (refused n)) = true
-isRefused (uses (answered u)) = false
+isRefused (writes table (answered u)) = false
+isRefused (writes table (refused n)) = true
+isRefused (uses (answered us)) = false
 isRefused (uses (refused n)) = true
 isRefused reads = false

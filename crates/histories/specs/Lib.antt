@@ -3,5 +3,6 @@ pub mod Lists
 pub mod Since
 pub mod Defined
 pub mod EveryList
+pub mod BuiltIn
 pub mod Consequences
 pub mod SineArguments

@@ -1,24 +1,34 @@
 -- Lists of calls on one set: "each call is lent that set (show its two stores) as the call before left it, and nothing else writes
--- it". What a call leaves is said in the definitions that the contracts of open, forward, inverse, place and unplace cite, and in no
--- others. Definitions only.
+-- it". Paper 10: "in a list and after it every call that takes a table, open excepted, takes that of the last open that answered, the
+-- one the list starts from included. An open may bring another." What a call leaves is said in the definitions that the contracts of
+-- open, forward, inverse, place and unplace cite, and in no others. Definitions only.
 use Prim.Native.Nat.{ℕ}
 use mathlib.Core.List.{List, [], _∷_}
-use Rattle.answer.specs.Given.{Given}
+use lib.Ieee.{Float}
+use Rattle.answer.specs.Given.{Given, answered, refused}
 use Rattle.arithmetic.specs.Arith.{ieee}
 use Rattle.coordinates.specs.declared.coords.Face.{Face}
 use Rattle.coordinates.specs.declared.lonlat.LonLat.{LonLat}
 use Rattle.coordinates.specs.declared.spherical.Spherical.{Spherical}
-use Rattle.origin.specs.Origins.{ORIGINS}
 use Rattle.set.specs.Set.{Set}
 use Rattle.set.specs.Open.{openGiven, setOpened}
-use Rattle.dodecahedron.specs.Work.{usedOf, setUsed}
+use Rattle.dodecahedron.specs.Work.{usedOf}
 use Rattle.dodecahedron.specs.Calls.{forwardGiven, inverseGiven, placeGiven, unplaceGiven}
+use Rattle.stores.specs.Used.{allWritten}
 use Rattle.stores.specs.declared.used.Used.{Used}
 use Rattle.show.specs.declared.StoreKind.{StoreKind}
 
--- a call that is lent the set, with its other arguments: any floats, any origin, any slot
+-- where a list stands: the set, and the table that calls take
+pub record Standing : Type 0 where
+  pub table : List Float
+  pub set : Set
+
+abbrev pub standing : List Float → Set → Standing
+standing table s = record { table = table; set = s }
+
+-- a call that is lent the set, with its other arguments: any table, any floats, any origin, any slot
 pub data Call : Type 0 where
-  opens : Call
+  opens : List Float → Call
   forwards : Spherical → ℕ → Call
   inverses : Face → ℕ → Call
   places : LonLat → Call
@@ -29,30 +39,45 @@ pub data Call : Type 0 where
 
 -- ---- what a call does to the set
 
--- Open writes the set, by its answer; a call that projects writes the slots that it uses, by its answer; show and its companion read.
+-- Open writes the set for its table, by its answer; a call that projects writes the slots that it uses, by its answer: those of each
+-- projection that it carries, in turn; show and its companion read.
 pub data Effect : Type 0 where
-  writes : Given (Unit {0}) → Effect
-  uses : Given Used → Effect
+  writes : List Float → Given (Unit {0}) → Effect
+  uses : Given (List Used) → Effect
   reads : Effect
 
-abbrev pub effect : Set → Call → Effect
-effect s opens = writes (openGiven ieee ORIGINS s)
-effect s (forwards p o) = uses (usedOf (forwardGiven ieee ORIGINS s p o))
-effect s (inverses f o) = uses (usedOf (inverseGiven ieee ORIGINS s f o))
-effect s (places p) = uses (usedOf (placeGiven ieee ORIGINS s p))
-effect s (unplaces f o) = uses (usedOf (unplaceGiven ieee ORIGINS s f o))
+-- a call that carries one projection
+abbrev pub alone : Given Used → Given (List Used)
+alone (refused n) = refused n
+alone (answered u) = answered (u ∷ [])
+
+abbrev pub effect : Standing → Call → Effect
+effect s (opens table) = writes table (openGiven ieee table (s .set))
+effect s (forwards p o) = uses (alone (usedOf (forwardGiven ieee (s .table) (s .set) p o)))
+effect s (inverses f o) = uses (alone (usedOf (inverseGiven ieee (s .table) (s .set) f o)))
+effect s (places p) = uses (alone (usedOf (placeGiven ieee (s .table) (s .set) p)))
+effect s (unplaces f o) = uses (alone (usedOf (unplaceGiven ieee (s .table) (s .set) f o)))
 effect s (shows kind k) = reads
 effect s (asks kind k) = reads
 
+-- the table that calls take after an open brought another: the old one, where it was refused
+abbrev pub tableOpened : List Float → List Float → Given (Unit {0}) → List Float
+tableOpened old new (refused n) = old
+tableOpened old new (answered u) = new
+
+abbrev pub setUsedAll : Set → Given (List Used) → Set
+setUsedAll s (refused n) = s
+setUsedAll s (answered us) = allWritten ieee s us
+
 -- the set as the contracts leave it; show and its companion are lent nothing to write
-abbrev pub after : Set → Effect → Set
-after s (writes g) = setOpened ieee ORIGINS s g
-after s (uses g) = setUsed ieee s g
+abbrev pub after : Standing → Effect → Standing
+after s (writes table g) = standing (tableOpened (s .table) table g) (setOpened ieee table (s .set) g)
+after s (uses g) = standing (s .table) (setUsedAll (s .set) g)
 after s reads = s
 
-abbrev pub step : Set → Call → Set
+abbrev pub step : Standing → Call → Standing
 step s c = after s (effect s c)
 
-abbrev pub run : Set → List Call → Set
+abbrev pub run : Standing → List Call → Standing
 run s [] = s
 run s (c ∷ cs) = run (step s c) cs

@@ -17,6 +17,7 @@ use Rattle.coordinates.specs.declared.polar.Polar.{Polar}
 use Rattle.coordinates.specs.declared.spherical.Spherical.{Spherical}
 use Rattle.origin.specs.Origins.{ORIGINS, originAt}
 use Rattle.origin.specs.Nearest.{nearestOrigin}
+use Rattle.origin.proofs.BuiltInPasses.{built-in-passes}
 use Rattle.origin.proofs.LowestNearest.{nearest-is}
 use Rattle.tiling.specs.Index.{triangleIndex, shouldReflect}
 use Rattle.tiling.specs.FaceTriangles.{faceTriangle}
@@ -73,7 +74,7 @@ builds : (o k j : ℕ)
 unfolding sphereTaken faceTaken
 builds o k j = rw (none-filled SPHERE-STORE (k * SPHERE-WIDTH), none-filled FACE-STORE (j * FACE-WIDTH))
 
-used-answers : (o : ℕ) (polar : Polar) → o < 12 → Answers (usedFor ieee ORIGINS fresh o polar)
+used-answers : (o : ℕ) (polar : Polar) → o < 12 → Answers (usedFor ieee (originAt ORIGINS o) fresh o polar)
 unfolding usedFor
 used-answers o polar h =
     let i = triangleIndex ieee (polar .gamma) in
@@ -86,11 +87,11 @@ used-answers o polar h =
 -- ---- what forward and inverse work out
 
 module _ (ns : List ℕ) (o : ℕ) (h : o < 12) where
-  forward-core-only : (p : Spherical) → Only ns (forwardCore ieee ORIGINS fresh p o)
+  forward-core-only : (p : Spherical) → Only ns (forwardCore ieee (originAt ORIGINS o) fresh p o)
   unfolding forwardCore
   forward-core-only p = only-bind ns _ _ (only-answers ns _ (used-answers o _ h)) (λ u. only-answered ns _)
 
-  inverse-core-only : among 19 ns ≡ true → (f : Face) → Only ns (inverseCore ieee ORIGINS fresh f o)
+  inverse-core-only : among 19 ns ≡ true → (f : Face) → Only ns (inverseCore ieee (originAt ORIGINS o) fresh f o)
   unfolding inverseCore
   inverse-core-only outside f =
       only-bind ns _ _ (only-answers ns _ (used-answers o (toPolar ieee f) h))
@@ -103,6 +104,7 @@ unfolding forwardGiven among
 forward-left p o =
     let ns = FORWARD-REFUSALS in
     only-then ns _ _ (only-passed ns fresh-passes) λ set.
+    only-then ns _ _ (only-passed ns built-in-passes) λ table.
     only-then ns _ _ (origin-only ns refl o) λ origin.
     only-then ns _ _ (spherical-only ns refl refl p) λ position.
     only-finish ns _ _ (forward-core-only ns o (origin-passed o origin) p) (finite-face-only ns refl)
@@ -112,6 +114,7 @@ unfolding inverseGiven among
 inverse-left f o =
     let ns = INVERSE-REFUSALS in
     only-then ns _ _ (only-passed ns fresh-passes) λ set.
+    only-then ns _ _ (only-passed ns built-in-passes) λ table.
     only-then ns _ _ (origin-only ns refl o) λ origin.
     only-then ns _ _ (face-only ns refl refl f) λ point.
     only-finish ns _ _ (inverse-core-only ns o (origin-passed o origin) refl f) (finite-spherical-only ns refl)
@@ -124,6 +127,7 @@ place-left l =
     let p = fromLonLat ieee l in
     let o = nearestOrigin ieee ORIGINS p in
     only-then ns _ _ (only-passed ns fresh-passes) λ set.
+    only-then ns _ _ (only-passed ns built-in-passes) λ table.
     only-then ns _ _ (lon-lat-only ns refl refl l) λ position.
     only-finish ns _ _ (forward-core-only ns o (nearest-is ieee ORIGINS p .origin) p) (finite-place-only ns refl o)
 
@@ -132,6 +136,7 @@ unfolding unplaceGiven among
 unplace-left f o =
     let ns = INVERSE-REFUSALS in
     only-then ns _ _ (only-passed ns fresh-passes) λ set.
+    only-then ns _ _ (only-passed ns built-in-passes) λ table.
     only-then ns _ _ (origin-only ns refl o) λ origin.
     only-then ns _ _ (face-only ns refl refl f) λ point.
     only-finish ns _ _ (inverse-core-only ns o (origin-passed o origin) refl f) λ s.

@@ -28,6 +28,7 @@ use Rattle.set.specs.Checks.{checkOrigin}
 use Rattle.dodecahedron.specs.Place.{finitePlace}
 use Rattle.dodecahedron.specs.Work.{Work, answerOf, usedOf, finish}
 use Rattle.frame_data.specs.Claims.{Answers}
+use Rattle.histories.specs.Lists.{alone}
 use Rattle.opening.specs.Refusals.{among, Only}
 
 number : {X : Type 0} → Given X → ℕ
@@ -35,9 +36,9 @@ number (answered x) = 0
 number (refused n) = n
 
 -- what an answered call used is refused with the number that its answer is
-pub answer-refused : {X : Type 0} (g : Given (Work X)) (n : ℕ) → usedOf g ≡ refused n → answerOf g ≡ refused n
+pub answer-refused : {X : Type 0} (g : Given (Work X)) (n : ℕ) → alone (usedOf g) ≡ refused n → answerOf g ≡ refused n
 unfolding number
-answer-refused (answered w) n e = refused-answers-nothing n (w .used) (sym e)
+answer-refused (answered w) n e = refused-answers-nothing n (w .used ∷ []) (sym e)
 answer-refused (refused m) n e = ap refused (ap number e)
 
 -- ---- lists of numbers

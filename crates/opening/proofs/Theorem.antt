@@ -1,6 +1,6 @@
 -- Paper 9. Open answers on buffers of the right lengths, since the frame has its 62 rows. By demand 3 a call after a
 -- list answers as on a newly opened set, and there every sphere triangle that it may take is built. Assumes nothing.
-use mathlib.Core.Path.{_≡_, refl, sym, subst, _∙_}
+use mathlib.Core.Path.{_≡_, refl, sym, ap, subst, _∙_}
 use mathlib.Core.Bool.{true, true≢false}
 use mathlib.Core.List.{List, [], _∷_}
 use Prim.Native.Nat.{ℕ, _/_, _%_}
@@ -14,17 +14,22 @@ use Rattle.origin.specs.Origins.{ORIGINS}
 use Rattle.crs.specs.Frame.{frameRows}
 use Rattle.set.specs.Set.{Set}
 use Rattle.set.proofs.Lengths.{Fits, set-passes}
-use Rattle.set.proofs.Opening.{open-opened}
+use Rattle.set.specs.Open.{openGiven}
+use Rattle.set.proofs.Opening.{open-opened, built-in-check}
+use Rattle.stores.specs.Used.{usedWritten, allWritten}
+use Rattle.stores.specs.declared.used.Used.{Used}
 use Rattle.dodecahedron.specs.Calls.{forwardGiven, inverseGiven, placeGiven, unplaceGiven}
-use Rattle.histories.specs.Lists.{Call, opens, forwards, inverses, places, unplaces, shows, asks, Effect, writes, uses, reads, effect, after, step, run}
+use Rattle.histories.specs.Lists.{Standing, standing, Call, opens, forwards, inverses, places, unplaces, shows, asks, Effect, writes, uses, reads, effect, after, step, run}
 use Rattle.histories.specs.Defined.{sphereDefined}
 use Rattle.histories.specs.EveryList.{opened, left}
+use Rattle.histories.specs.BuiltIn.{BuiltIn}
 use Rattle.histories.proofs.Theorem.{every-list}
+use Rattle.histories.proofs.BuiltIn.{answers-built-in}
 use Rattle.frame_data.specs.Rows.{ROWS}
 use Rattle.frame_data.specs.Claims.{Answers}
 use Rattle.frame_data.proofs.Frame.{frame-is}
 use Rattle.frame_data.proofs.Triangles.{all-built}
-use Rattle.opening.specs.Opening.{RightLengths, OpenAnswers, RefusedWith, Never8, EverySlot, ConstantRows, KnownFrame, Demand3ByLengths}
+use Rattle.opening.specs.Opening.{RightLengths, OpenAnswers, RefusedWith, InForce, Never8, EverySlot, ConstantRows, KnownFrame, Demand3ByLengths}
 use Rattle.opening.specs.Refusals.{among, Only, FORWARD-REFUSALS, INVERSE-REFUSALS, PLACE-REFUSALS, RefusalsLeft}
 use Rattle.opening.proofs.Refusals.{Within, among-within, answer-refused}
 use Rattle.opening.proofs.Fresh.{rows-long, fresh-left}
@@ -34,24 +39,31 @@ use Rattle.opening.proofs.Fresh.{rows-long, fresh-left}
 pub open-answers : OpenAnswers
 open-answers b l =
     let fits : Fits b = record { frame = l .frame; faces = l .faces; spheres = l .spheres } in
-    open-opened ieee ORIGINS b (set-passes b fits) rows-long
+    open-opened ieee ORIGINS b (built-in-check b ∙ set-passes b fits) rows-long
 
 pub demand-3-by-lengths : Demand3ByLengths
 demand-3-by-lengths b l cs =
-    let list = every-list b (open-answers b l) cs in
-    (list, λ n m. list .answers n (open-answers n m))
+    let ready = open-answers b l in
+    (every-list ORIGINS b ready cs, λ is n m. answers-built-in b ready cs is n (open-answers n m))
 
 -- ---- the frame stays as open wrote it
 
-frame-kept : (s : Set) (e : Effect) → s .frame ≡ frameRows ieee ORIGINS → after s e .frame ≡ frameRows ieee ORIGINS
-frame-kept s (writes (answered u)) h = refl
-frame-kept s (writes (refused n)) h = h
-frame-kept s (uses (answered u)) h = h
+-- a set whose frame is its table's
+abbrev Framed : Standing → Type 0
+Framed s = s .set .frame ≡ frameRows ieee (s .table)
+
+written-frame : (us : List Used) (s : Set) → allWritten ieee s us .frame ≡ s .frame
+written-frame [] s = refl
+written-frame (u ∷ us) s = written-frame us (usedWritten ieee s u)
+
+frame-kept : (s : Standing) (e : Effect) → Framed s → Framed (after s e)
+frame-kept s (writes table (answered u)) h = refl
+frame-kept s (writes table (refused n)) h = h
+frame-kept s (uses (answered us)) h = written-frame us (s .set) ∙ h
 frame-kept s (uses (refused n)) h = h
 frame-kept s reads h = h
 
-frame-after-run : (cs : List Call) (s : Set)
-    → s .frame ≡ frameRows ieee ORIGINS → run s cs .frame ≡ frameRows ieee ORIGINS
+frame-after-run : (cs : List Call) (s : Standing) → Framed s → Framed (run s cs)
 frame-after-run [] s h = h
 frame-after-run (c ∷ cs) s h = frame-after-run cs (step s c) (frame-kept s (effect s c) h)
 
@@ -66,12 +78,15 @@ place-within : Within PLACE-REFUSALS INVERSE-REFUSALS
 unfolding among
 place-within = (refl, (refl, (refl, tt)))
 
-module _ (b : Set) (l : RightLengths b) (cs : List Call) where
+opened-framed : (b : Set) → RightLengths b → Framed (opened ORIGINS b)
+opened-framed b l = rw (open-answers b l)
+
+module _ (b : Set) (l : RightLengths b) (cs : List Call) (is : InForce b cs) where
   abbrev s : Set
-  s = left b cs
+  s = left ORIGINS b cs .set
 
   pub frame-after : s .frame ≡ frameRows ieee ORIGINS
-  frame-after = frame-after-run cs (opened b) (rw (open-answers b l))
+  frame-after = frame-after-run cs (opened ORIGINS b) (opened-framed b l) ∙ ap (frameRows ieee) is
 
   pub lengths-after : RightLengths s
   lengths-after =
@@ -80,8 +95,8 @@ module _ (b : Set) (l : RightLengths b) (cs : List Call) where
 
   pub refusals-left : RefusalsLeft s
   refusals-left =
-      let there : RefusalsLeft (opened b) = rw (open-answers b l) fresh-left in
-      let same = demand-3-by-lengths b l cs .1 b l in
+      let there : RefusalsLeft (opened ORIGINS b .set) = rw (open-answers b l) fresh-left in
+      let same = demand-3-by-lengths b l cs .1 is b l in
       record {
         forward = λ p o. subst (Only FORWARD-REFUSALS) (sym (same .forward p o)) (there .forward p o);
         inverse = λ f o. subst (Only INVERSE-REFUSALS) (sym (same .inverse f o)) (there .inverse f o);
@@ -89,36 +104,38 @@ module _ (b : Set) (l : RightLengths b) (cs : List Call) where
         unplace = λ f o. subst (Only INVERSE-REFUSALS) (sym (same .unplace f o)) (there .unplace f o);
       }
 
-  -- whichever call comes next, open included
-  pub call-left : (c : Call) (n : ℕ) → RefusedWith n (effect s c) → among n INVERSE-REFUSALS ≡ true
-  call-left opens n e = refused-answers-nothing n tt (sym e ∙ open-answers s lengths-after)
-  call-left (forwards p o) n e =
+  -- whichever call comes next, open with the built-in table included
+  pub call-left : (c : Call) → BuiltIn c → (n : ℕ) → RefusedWith n (effect (standing ORIGINS s) c) → among n INVERSE-REFUSALS ≡ true
+  call-left (opens table) built-in n e =
+      let answers = ap (λ (t : List Float). openGiven ieee t s) built-in ∙ open-answers s lengths-after in
+      refused-answers-nothing n tt (sym e ∙ answers)
+  call-left (forwards p o) built-in n e =
       let mine = refusals-left .forward p o n (answer-refused (forwardGiven ieee ORIGINS s p o) n e) in
       among-within n FORWARD-REFUSALS INVERSE-REFUSALS forward-within mine
-  call-left (inverses f o) n e = refusals-left .inverse f o n (answer-refused (inverseGiven ieee ORIGINS s f o) n e)
-  call-left (places p) n e =
+  call-left (inverses f o) built-in n e = refusals-left .inverse f o n (answer-refused (inverseGiven ieee ORIGINS s f o) n e)
+  call-left (places p) built-in n e =
       let mine = refusals-left .place p n (answer-refused (placeGiven ieee ORIGINS s p) n e) in
       among-within n PLACE-REFUSALS INVERSE-REFUSALS place-within mine
-  call-left (unplaces f o) n e = refusals-left .unplace f o n (answer-refused (unplaceGiven ieee ORIGINS s f o) n e)
-  call-left (shows kind k) n e = absurd e
-  call-left (asks kind k) n e = absurd e
+  call-left (unplaces f o) built-in n e = refusals-left .unplace f o n (answer-refused (unplaceGiven ieee ORIGINS s f o) n e)
+  call-left (shows kind k) built-in n e = absurd e
+  call-left (asks kind k) built-in n e = absurd e
 
 pub never-8 : Never8
 unfolding among
-never-8 b l cs =
-    let only = refusals-left b l cs in
+never-8 b l cs is =
+    let only = refusals-left b l cs is in
     record {
       forward = λ p o e. true≢false (sym (only .forward p o 8 e));
       inverse = λ f o e. true≢false (sym (only .inverse f o 8 e));
       place = λ p e. true≢false (sym (only .place p 8 e));
       unplace = λ f o e. true≢false (sym (only .unplace f o 8 e));
-      any-call = λ c e. true≢false (sym (call-left b l cs c 8 e));
+      any-call = λ c built-in e. true≢false (sym (call-left b l cs is c built-in 8 e));
     }
 
 pub every-slot : EverySlot
 unfolding sphereDefined
-every-slot b l cs k h =
-    subst (λ (frame : List Float). Answers (sphereDefined frame k)) (sym (frame-after b l cs))
+every-slot b l cs is k h =
+    subst (λ (frame : List Float). Answers (sphereDefined ORIGINS frame k)) (sym (frame-after b l cs is))
     (all-built (k % 120 / 10) (k % 10) (leb 120 k) (omega arith) (omega arith))
 
 constant-rows : ConstantRows ROWS
@@ -126,6 +143,6 @@ unfolding ROWS ofBits
 constant-rows = record { row-0 = refl; row-32 = refl; row-12 = refl }
 
 pub known-frame : KnownFrame
-known-frame b l cs =
-    let is = frame-after b l cs ∙ frame-is in
+known-frame b l cs in-force =
+    let is = frame-after b l cs in-force ∙ frame-is in
     (is, subst ConstantRows (sym is) constant-rows)

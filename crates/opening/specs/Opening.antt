@@ -17,9 +17,10 @@ use Rattle.set.specs.Set.{Set}
 use Rattle.set.specs.Open.{openOn}
 use Rattle.dodecahedron.specs.Projection.{rowAt}
 use Rattle.dodecahedron.specs.Calls.{forwardOn, inverseOn, placeOn, unplaceOn}
-use Rattle.histories.specs.Lists.{Call, Effect, writes, uses, reads, effect}
+use Rattle.histories.specs.Lists.{standing, Call, Effect, writes, uses, reads, effect}
 use Rattle.histories.specs.Defined.{sphereDefined}
 use Rattle.histories.specs.EveryList.{SameAnswers, EveryList, opened, left}
+use Rattle.histories.specs.BuiltIn.{BuiltIn}
 use Rattle.frame_data.specs.Rows.{ROWS}
 use Rattle.frame_data.specs.Claims.{Answers}
 
@@ -35,29 +36,34 @@ OpenAnswers = (b : Set) → RightLengths b → openOn ieee ORIGINS b .answer ≡
 
 -- a call is refused with n, told by what it does to the set
 abbrev pub RefusedWith : ℕ → Effect → Type 0
-RefusedWith n (writes g) = g ≡ refused n
+RefusedWith n (writes table g) = g ≡ refused n
 RefusedWith n (uses g) = g ≡ refused n
 RefusedWith n reads = ⊥
 
--- "forward, inverse, place and unplace never give 8": on the set s, with any arguments; nor does any call of a list,
--- whichever of them it carries
+-- "forward, inverse, place and unplace never give 8": on the set s, with any arguments; nor does any call of a list that
+-- brings no other table, whichever of them it carries
 pub record Without8 (s : Set) : Type 0 where
   pub forward : (p : Spherical) (o : ℕ) → forwardOn ieee ORIGINS s p o .answer ≡ refused 8 → ⊥
   pub inverse : (f : Face) (o : ℕ) → inverseOn ieee ORIGINS s f o .answer ≡ refused 8 → ⊥
   pub place : (l : LonLat) → placeOn ieee ORIGINS s l .answer ≡ refused 8 → ⊥
   pub unplace : (f : Face) (o : ℕ) → unplaceOn ieee ORIGINS s f o .answer ≡ refused 8 → ⊥
-  pub any-call : (c : Call) → RefusedWith 8 (effect s c) → ⊥
+  pub any-call : (c : Call) → BuiltIn c → RefusedWith 8 (effect (standing ORIGINS s) c) → ⊥
+
+-- after the list cs, calls take the built-in table: always, where no open of it brought another (`table-left` of
+-- `histories/proofs/BuiltIn`), and also where the last open that answered brought this one again
+abbrev pub InForce : Set → List Call → Type 0
+InForce b cs = left ORIGINS b cs .table ≡ ORIGINS
 
 -- "in a set opened and then touched only by our calls": after every list of demand 3, the empty one included
 abbrev pub Never8 : Type 0
-Never8 = (b : Set) → RightLengths b → (cs : List Call) → Without8 (left b cs)
+Never8 = (b : Set) → RightLengths b → (cs : List Call) → InForce b cs → Without8 (left ORIGINS b cs .set)
 
 -- "All 240 sphere triangles .., and its outcome carried to each slot": each has its triangle, built from the frame as
 -- it then is
 abbrev pub EverySlot : Type 0
 EverySlot =
-    (b : Set) → RightLengths b → (cs : List Call) (k : ℕ) → k < SPHERE-SLOTS →
-    Answers (sphereDefined (left b cs .frame) k)
+    (b : Set) → RightLengths b → (cs : List Call) → InForce b cs → (k : ℕ) → k < SPHERE-SLOTS →
+    Answers (sphereDefined ORIGINS (left ORIGINS b cs .set .frame) k)
 
 -- a row by its bits
 abbrev bits : ℕ → ℕ → ℕ → Cartesian
@@ -75,12 +81,13 @@ pub record ConstantRows (frame : List Float) : Type 0 where
 -- the frame is data, all 62 rows of it, and so are these three
 abbrev pub KnownFrame : Type 0
 KnownFrame =
-    (b : Set) → RightLengths b → (cs : List Call) →
-    (left b cs .frame ≡ ROWS) × ConstantRows (left b cs .frame)
+    (b : Set) → RightLengths b → (cs : List Call) → InForce b cs →
+    (left ORIGINS b cs .set .frame ≡ ROWS) × ConstantRows (left ORIGINS b cs .set .frame)
 
 -- Demand 3 with "buffers of the right lengths" in place of "open answers", for the set that a list starts from and for
 -- the one that answers are compared with
 abbrev pub Demand3ByLengths : Type 0
 Demand3ByLengths =
     (b : Set) → RightLengths b → (cs : List Call) →
-    EveryList b cs × ((n : Set) → RightLengths n → SameAnswers (left b cs) (opened n))
+    EveryList ORIGINS b cs
+    × (InForce b cs → (n : Set) → RightLengths n → SameAnswers ORIGINS (left ORIGINS b cs .set) (opened ORIGINS n .set))

@@ -13,7 +13,7 @@ use Rattle.coordinates.specs.declared.spherical.Spherical.{Spherical}
 use Rattle.origin.specs.Origins.{ORIGINS}
 use Rattle.set.specs.Set.{Set}
 use Rattle.dodecahedron.specs.Calls.{forwardOn, inverseOn, placeOn, unplaceOn}
-use Rattle.histories.specs.Lists.{Call, effect, step}
+use Rattle.histories.specs.Lists.{Standing, Call, effect, step}
 use Rattle.opening.specs.Opening.{RefusedWith}
 
 -- n is one of these numbers
@@ -44,6 +44,6 @@ pub record RefusalsLeft (s : Set) : Type 0 where
   pub unplace : (f : Face) (o : ℕ) → Only INVERSE-REFUSALS (unplaceOn ieee ORIGINS s f o .answer)
 
 -- no call of a list, open included, is refused with n
-abbrev pub NoneRefused : ℕ → Set → List Call → Type 0
+abbrev pub NoneRefused : ℕ → Standing → List Call → Type 0
 NoneRefused n s [] = Unit {0}
 NoneRefused n s (c ∷ cs) = (RefusedWith n (effect s c) → ⊥) × NoneRefused n (step s c) cs

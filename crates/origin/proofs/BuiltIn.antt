@@ -1,7 +1,8 @@
 -- The built-in table by its bits: what `generate_origins` and ORIGIN_ORDER make. Computed. A row is two lines: axis theta and phi, then
 -- quaternion x, y, z, w and angle. Assumes nothing.
-use mathlib.Core.Path.{_≡_, refl}
+use mathlib.Core.Path.{_≡_, refl, ap}
 use mathlib.Core.List.{List, [], _∷_, map}
+use lib.ListN.{length}
 use lib.Ieee.{Float, binary64, ofBits}
 use Rattle.arithmetic.specs.Arith.{Arith}
 use Rattle.arithmetic.proofs.Quick.{quick, in-ieee}
@@ -40,3 +41,7 @@ BITS =
 pub built-in : ORIGINS ≡ BITS
 unfolding ORIGINS BITS generatedTable ofBits quick
 built-in = in-ieee (λ (A : Arith). generatedTable A ≡ BITS) refl
+
+pub built-in-rows : length ORIGINS ≡ 84
+unfolding BITS
+built-in-rows = ap length built-in

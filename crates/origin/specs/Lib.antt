@@ -3,5 +3,6 @@
 pub mod Constants
 pub mod Quaternion
 pub mod Origins
+pub mod Table
 pub mod Nearest
 pub mod LowestNearest

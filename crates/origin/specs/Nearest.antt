@@ -11,6 +11,7 @@ use Rattle.coordinates.specs.Constants.{2·0}
 use Rattle.coordinates.specs.Conversions.{checkSpherical}
 use Rattle.coordinates.specs.declared.spherical.Spherical.{Spherical}
 use Rattle.origin.specs.Origins.{originAt}
+use Rattle.origin.specs.Table.{checkTable}
 use Rattle.origin.specs.declared.origin.OriginAnswer.{OriginAnswer}
 use Rattle.origin.specs.declared.origin.OriginAnswer.the-variants as origin
 
@@ -47,6 +48,6 @@ module _ (A : Arith) where
   unfoldable pub nearestOrigin : List Float → Spherical → ℕ
   nearestOrigin table p = least (haversines table p)
 
-  -- the call: theta, then phi, each for 5 and then 6
+  -- the call: Paper 10's checks of the table first, then theta and phi, each for 5 and then 6
   unfoldable pub nearestGiven : List Float → Spherical → Given ℕ
-  nearestGiven table p = andThen (checkSpherical p) (answered (nearestOrigin table p))
+  nearestGiven table p = andThen (checkTable A table) (andThen (checkSpherical p) (answered (nearestOrigin table p)))

@@ -1,4 +1,6 @@
 // The twelve origins, and the one nearest to a point.
+use crate::table::check_rows;
+use crate::table::origin_in;
 use crate::utils::Origin;
 use crate::utils::Quat;
 use answer::Check;
@@ -7,13 +9,14 @@ use coordinates::base::Radians;
 use coordinates::spherical::Spherical;
 use sine::sin_inside;
 ghost use mathlib.Core.Path.{_≡_};
-ghost use mathlib.Core.Bool.{false};
+ghost use mathlib.Core.Bool.{true, false};
 ghost use lib.ListN.{length};
 ghost use lib.Ieee.{binary64, mul, div};
 ghost use Rattle.arithmetic.specs.Arith.{ieee};
 ghost use Rattle.elementary.specs.Sine.{outside, sin};
 ghost use Rattle.coordinates.specs.Constants.{2·0};
 ghost use Rattle.origin.specs.Origins.{ORIGINS, originAt};
+ghost use Rattle.origin.specs.Table.{numbersSound};
 ghost use Rattle.origin.specs.Nearest.{givenOrigin, least, haversine, haversines, nearestOrigin, nearestGiven};
 
 // A row an origin, in final order: axis theta, axis phi, quaternion x, y, z, w, angle.
@@ -104,6 +107,13 @@ const ORIGINS: [f64; 84] = [
     0.6283185307179586,
 ];
 
+// The built-in table.
+pub fn built_in() -> [f64; 84]
+    ensures { λ r. ⌜ r ≡ ORIGINS ⌝ }
+{
+    ORIGINS
+}
+
 // The origin with the number id; NaN in every place where there is none.
 pub fn get_origin(id: u8) -> Origin
     ensures { λ r. ⌜ r ≡ originAt ORIGINS id ⌝ }
@@ -124,27 +134,16 @@ pub fn get_origin(id: u8) -> Origin
             angle: Radians(nan),
         };
     }
-    let table = ORIGINS;
-    let at = 7 * (id as usize);
-    Origin {
-        axis: Spherical {
-            theta: Radians(table[at]),
-            phi: Radians(table[at + 1]),
-        },
-        quat: Quat {
-            x: table[at + 2],
-            y: table[at + 3],
-            z: table[at + 4],
-            w: table[at + 5],
-        },
-        angle: Radians(table[at + 6]),
-    }
+    let table = built_in();
+    origin_in(&table, id)
 }
 
-// Modified haversine formula of the Rust: it grows with the angle between the two.
-pub fn haversine(point: Spherical, axis: Spherical) -> f64
+// Modified haversine formula of the Rust: it grows with the angle between the two. The sine of the
+// point's phi is handed over, since several axes share it.
+fn haversine_by(point: Spherical, sine: f64, axis: Spherical) -> f64
     requires { ⌜ (outside (point .theta .0) ≡ false) × (outside (point .phi .0) ≡ false) ⌝ }
     requires { ⌜ (outside (axis .theta .0) ≡ false) × (outside (axis .phi .0) ≡ false) ⌝ }
+    requires { ⌜ sine ≡ sin ieee (point .phi .0) ⌝ }
     ensures { λ r. ⌜ r ≡ haversine ieee point axis ⌝ }
 {
     let theta = point.theta.0;
@@ -155,7 +154,16 @@ pub fn haversine(point: Spherical, axis: Spherical) -> f64
     let dphi = phi2 - phi;
     let a1 = sin_inside(dphi / 2.0);
     let a2 = sin_inside(dtheta / 2.0);
-    a1 * a1 + a2 * a2 * sin_inside(phi) * sin_inside(phi2)
+    a1 * a1 + a2 * a2 * sine * sin_inside(phi2)
+}
+
+// The haversine of a point and an axis.
+pub fn haversine(point: Spherical, axis: Spherical) -> f64
+    requires { ⌜ (outside (point .theta .0) ≡ false) × (outside (point .phi .0) ≡ false) ⌝ }
+    requires { ⌜ (outside (axis .theta .0) ≡ false) × (outside (axis .phi .0) ≡ false) ⌝ }
+    ensures { λ r. ⌜ r ≡ haversine ieee point axis ⌝ }
+{
+    haversine_by(point, sin_inside(point.phi.0), axis)
 }
 
 // The square of the sine of half an angle.
@@ -239,13 +247,41 @@ pub fn find_nearest_origin(point: Spherical) -> u8
     least(&distances)
 }
 
+// From the point to each of a table's twelve axes.
+fn haversines_in(table: &[f64; 84], point: Spherical) -> [f64; 12]
+    requires { ⌜ numbersSound (now table) ≡ true ⌝ }
+    requires { ⌜ (outside (point .theta .0) ≡ false) × (outside (point .phi .0) ≡ false) ⌝ }
+    ensures { λ r. ⌜ r ≡ haversines ieee (now (table .entry)) point ⌝ }
+{
+    let sine = sin_inside(point.phi.0);
+    let mut distances = [0.0; 12];
+    let mut k: u8 = 0;
+    while k < 12 {
+        let origin = origin_in(table, k);
+        distances[k as usize] = haversine_by(point, sine, origin.axis);
+        k += 1;
+    }
+    distances
+}
+
+// The lowest-numbered origin of a table with the least haversine, without the checks of the call.
+pub fn find_nearest_in(table: &[f64; 84], point: Spherical) -> u8
+    requires { ⌜ numbersSound (now table) ≡ true ⌝ }
+    requires { ⌜ (outside (point .theta .0) ≡ false) × (outside (point .phi .0) ≡ false) ⌝ }
+    ensures { λ r. ⌜ r ≡ nearestOrigin ieee (now (table .entry)) point ⌝ }
+{
+    let distances = haversines_in(table, point);
+    least(&distances)
+}
+
 // What nearest comes to: an origin's id, or the refusal.
 pub enum OriginAnswer {
     Answered(u8),
     Refused(Refusal),
 }
 
-// The call: the lowest-numbered origin with the least haversine, or theta's and then phi's 5 or 6.
+// The call with the built-in table, which needs no check: the lowest-numbered origin with the least
+// haversine, or theta's and then phi's 5 or 6.
 pub fn nearest(point: Spherical) -> OriginAnswer
     ensures { λ r. ⌜ givenOrigin r ≡ nearestGiven ieee ORIGINS point ⌝ }
 {
@@ -254,4 +290,19 @@ pub fn nearest(point: Spherical) -> OriginAnswer
         return OriginAnswer::Refused(n);
     }
     OriginAnswer::Answered(find_nearest_origin(point))
+}
+
+// The call with a table: its 21 and 22, and then as nearest.
+pub fn nearest_with(table: [f64; 84], point: Spherical) -> OriginAnswer
+    ensures { λ r. ⌜ givenOrigin r ≡ nearestGiven ieee table point ⌝ }
+{
+    let rows = check_rows(&table);
+    if let Check::Refused(of_table) = rows {
+        return OriginAnswer::Refused(of_table);
+    }
+    let check = coordinates::conversions::check_spherical(point);
+    if let Check::Refused(of_point) = check {
+        return OriginAnswer::Refused(of_point);
+    }
+    OriginAnswer::Answered(find_nearest_in(&table, point))
 }

@@ -21,8 +21,7 @@ use show::StoreKind;
 use show::show;
 use show::slot_state;
 ghost use Rattle.set.specs.Outcome.{lent, Becomes};
-ghost use Rattle.histories.specs.Lists.{step};
-ghost use Rattle.replay_perform.specs.Performed.{callOf};
+ghost use Rattle.replay_perform.specs.Performed.{performed};
 
 pub enum Call {
     Open,
@@ -105,7 +104,7 @@ pub fn perform(
     sphere_store: &mut [f64],
     call: Call,
 ) -> Outcome
-    ensures { λ _. ⌜ Becomes (lent frame «face_store» «sphere_store») (λ s. step s (callOf call)) ⌝ }
+    ensures { λ _. ⌜ Becomes (lent frame «face_store» «sphere_store») (λ s. performed s call) ⌝ }
 {
     match call {
         Call::Open => of_open(open(frame, face_store, sphere_store)),

@@ -1,17 +1,22 @@
 -- The checks of a set and an origin backwards: where they passed, the three lengths are right and the origin is one of the
 -- twelve; and forwards. Assumes nothing.
 use mathlib.Core.Path.{_≡_}
-use mathlib.Core.Bool.{not, false}
+use mathlib.Core.Bool.{not, true, false}
+use mathlib.Core.List.{List}
 use Prim.Native.Nat.{ℕ, _<_}
 use native.Mathlib.Omega.{arith}
 use lib.Dec.{eqb, ltb}
 use lib.ListN.{length}
+use lib.Ieee.{Float}
 use borrow.Author.Tests.{eqb-true, eq-eqb, ltb-false, le-ltb, not-false}
 use Rattle.answer.specs.Given.{passed}
 use Rattle.answer.proofs.Given.{refuse-answered, then-answered}
+use Rattle.arithmetic.specs.Arith.{Arith}
+use Rattle.origin.specs.Table.{numbersSound, checkTable}
+use Rattle.origin.proofs.Check.{passed-sound}
 use Rattle.set.specs.Sizes.{FRAME, FACE-STORE, SPHERE-STORE}
 use Rattle.set.specs.Set.{Set, checkSet}
-use Rattle.set.specs.Checks.{checkOrigin, checkCall}
+use Rattle.set.specs.Checks.{checkOrigin, checkCall, checkWith}
 
 pub record Fits (s : Set) : Type 0 where
   pub frame : length (s .frame) ≡ FRAME
@@ -41,6 +46,12 @@ pub call-passed : (s : Set) (o : ℕ) → checkCall s o ≡ passed → Fits s ×
 call-passed s o e =
     let both = then-answered (checkSet s) (checkOrigin o) tt e in
     (set-passed s (both .0), origin-passed o (both .1))
+
+-- with a table: its numbers are sound too
+pub with-passed : (A : Arith) (table : List Float) (s : Set) → checkWith A table s ≡ passed → Fits s × (numbersSound table ≡ true)
+with-passed A table s e =
+    let both = then-answered (checkSet s) (checkTable A table) tt e in
+    (set-passed s (both .0), passed-sound A table (both .1))
 
 pub set-passes : (s : Set) → Fits s → checkSet s ≡ passed
 unfolding checkSet

@@ -8,6 +8,7 @@ use Rattle.answer.specs.Given.{Given, answered, refused, passed, refuseIf, andT
 use Rattle.answer.specs.Answer.{numberOf}
 use Rattle.arithmetic.specs.Arith.{Arith}
 use Rattle.arithmetic.specs.Numbers.{0·0}
+use Rattle.origin.specs.Table.{checkTable}
 use Rattle.crs.specs.Frame.{frameRows}
 use Rattle.set.specs.Sizes.{FRAME, FACE-STORE, SPHERE-STORE}
 use Rattle.set.specs.Set.{Set, setOf, checkSet}
@@ -20,12 +21,13 @@ givenOpen answer.Opened = passed
 givenOpen (answer.Refused n) = refused (numberOf n)
 
 module _ (A : Arith) (table : List Float) where
-  -- what open gives: 1, 2, 3, and 7 where the frame's rows aren't 62
+  -- what open gives: 1, 2, 3; Paper 10's 21, 22; and 7 where the frame's rows aren't 62
   unfoldable pub openGiven : Set → Given (Unit {0})
   openGiven s =
       andThen (checkSet s)
+      (andThen (checkTable A table)
       (refuseIf (not (eqb (length (frameRows A table)) FRAME)) 7
-      passed)
+      passed))
 
   -- "writes the frame and fills both stores with 0.0"
   abbrev pub newSet : Set

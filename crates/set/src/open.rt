@@ -1,13 +1,19 @@
 // Open: writes the frame and empties both stores.
+use crate::checks::check_with;
+use crate::set::check_set;
 use crate::sizes::FRAME;
 use answer::Check;
 use answer::Refusal;
+use crs::frame::build_frame;
+use origin::origin::built_in;
 ghost use mathlib.Core.Path.{_≡_};
 ghost use lib.ListN.{length, replicate};
 ghost use Rattle.arithmetic.specs.Numbers.{0·0};
 ghost use Rattle.arithmetic.specs.Arith.{ieee};
+ghost use Rattle.answer.specs.Given.{passed};
 ghost use Rattle.origin.specs.Origins.{ORIGINS};
-ghost use Rattle.set.specs.Outcome.{lent, Leaves};
+ghost use Rattle.set.specs.Checks.{checkWith};
+ghost use Rattle.set.specs.Outcome.{held, lent, Leaves};
 ghost use Rattle.set.specs.Open.{givenOpen, openOn};
 
 pub enum OpenAnswer {
@@ -36,17 +42,19 @@ fn clear(store: &mut [f64])
     }
 }
 
-// Opens a set: writes the frame and empties both stores, or refuses with 1, 2, 3 or 7. The frame is
-// built apart, so that a refusal leaves what was lent as it was.
-pub fn open(frame: &mut [f64], face_store: &mut [f64], sphere_store: &mut [f64]) -> OpenAnswer
-    ensures { λ r. ⌜ Leaves (lent frame «face_store» «sphere_store») (givenOpen r) (openOn ieee ORIGINS) ⌝ }
+// Opens a set where all checks have passed: writes the frame of the table and empties both stores, or
+// refuses with 7. The frame is built apart, so that a refusal leaves what was lent as it was.
+fn open_checked(
+    table: &[f64; 84],
+    frame: &mut [f64],
+    face_store: &mut [f64],
+    sphere_store: &mut [f64],
+) -> OpenAnswer
+    requires { ⌜ checkWith ieee (now table) (held frame «face_store» «sphere_store») ≡ passed ⌝ }
+    ensures { λ r. ⌜ Leaves (lent frame «face_store» «sphere_store») (givenOpen r) (openOn ieee (now (table .entry))) ⌝ }
 {
-    let check = crate::set::check_set(frame, face_store, sphere_store);
-    if let Check::Refused(n) = check {
-        return OpenAnswer::Refused(n);
-    }
     let mut rows = [0.0; 396];
-    let used = crs::frame::build_frame(&mut rows);
+    let used = build_frame(table, &mut rows);
     if used != FRAME {
         return OpenAnswer::Refused(Refusal::FrameRows);
     }
@@ -54,4 +62,32 @@ pub fn open(frame: &mut [f64], face_store: &mut [f64], sphere_store: &mut [f64])
     clear(face_store);
     clear(sphere_store);
     OpenAnswer::Opened
+}
+
+// Opens a set with the built-in table, which needs no check, or refuses with 1, 2, 3 or 7.
+pub fn open(frame: &mut [f64], face_store: &mut [f64], sphere_store: &mut [f64]) -> OpenAnswer
+    ensures { λ r. ⌜ Leaves (lent frame «face_store» «sphere_store») (givenOpen r) (openOn ieee ORIGINS) ⌝ }
+{
+    let check = check_set(frame, face_store, sphere_store);
+    if let Check::Refused(n) = check {
+        return OpenAnswer::Refused(n);
+    }
+    let table = built_in();
+    open_checked(&table, frame, face_store, sphere_store)
+}
+
+// Opens a set with a table, or refuses with 1, 2, 3, 21, 22 or 7.
+pub fn open_with(
+    table: [f64; 84],
+    frame: &mut [f64],
+    face_store: &mut [f64],
+    sphere_store: &mut [f64],
+) -> OpenAnswer
+    ensures { λ r. ⌜ Leaves (lent frame «face_store» «sphere_store») (givenOpen r) (openOn ieee table) ⌝ }
+{
+    let check = check_with(&table, frame, face_store, sphere_store);
+    if let Check::Refused(n) = check {
+        return OpenAnswer::Refused(n);
+    }
+    open_checked(&table, frame, face_store, sphere_store)
 }

@@ -1,7 +1,7 @@
 -- Document 01, "Triangles and calls": which slots a call uses, and how they are written (projections/dodecahedron.rs). Definitions only.
 use Prim.Native.Nat.{ℕ}
 use mathlib.Core.Bool.{Bool, true, false, cond, _&&_}
-use mathlib.Core.List.{List}
+use mathlib.Core.List.{List, [], _∷_}
 use lib.Dec.{ltb}
 use lib.Ieee.{Float}
 use Rattle.answer.specs.Given.{Given, answered, refused}
@@ -38,6 +38,11 @@ module _ (A : Arith) where
         faces = facesWritten (s .faces) (u .index) (u .reflected);
         spheres = sphereWritten (s .spheres) u;
       }
+
+  -- those of several calls, one call's after another's
+  abbrev pub allWritten : Set → List Used → Set
+  allWritten s [] = s
+  allWritten s (u ∷ us) = allWritten (usedWritten s u) us
 
 -- ---- the same for any set and any slots
 

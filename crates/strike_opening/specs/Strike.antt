@@ -20,9 +20,9 @@ setAfter (suc n) s bytes = setAfter n (reply ieee ORIGINS s (take 10 bytes) .set
 -- whatever its buffers hold and whatever is read
 pub record SessionWithout7Or8 (b : Set) (bytes : List ℕ) : Type 0 where
   -- it begins its session: its one line is never the number that open was refused with
-  pub begins : program ieee ORIGINS b bytes ≡ session ieee ORIGINS (opened b) bytes
+  pub begins : program ieee ORIGINS b bytes ≡ session ieee ORIGINS (opened ORIGINS b .set) bytes
   -- and no record is refused with 8, however many were answered before it
-  pub records : (n : ℕ) (rest : List ℕ) → Without8 (setAfter n (opened b) rest)
+  pub records : (n : ℕ) (rest : List ℕ) → Without8 (setAfter n (opened ORIGINS b .set) rest)
 
 abbrev pub Never7Or8 : Type 0
 Never7Or8 = (b : Set) → RightLengths b → (bytes : List ℕ) → SessionWithout7Or8 b bytes

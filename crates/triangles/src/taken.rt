@@ -7,7 +7,7 @@ use answer::Check;
 use answer::Refusal;
 use coordinates::coords::FaceTriangle;
 use coordinates::polar::Polar;
-use origin::origin::get_origin;
+use origin::utils::Origin;
 use set::checks::check_call;
 use stores::slots::face_slot;
 use stores::slots::source_slot;
@@ -16,9 +16,11 @@ use stores::used::Used;
 use tiling::index::get_face_triangle_index;
 use tiling::index::should_reflect;
 ghost use mathlib.Core.Path.{_≡_};
+ghost use mathlib.Core.Bool.{false};
 ghost use Rattle.answer.specs.Given.{passed};
 ghost use Rattle.arithmetic.specs.Arith.{ieee};
-ghost use Rattle.origin.specs.Origins.{ORIGINS};
+ghost use Rattle.elementary.specs.Sine.{beyond};
+ghost use Rattle.coordinates.specs.Constants.{8·0};
 ghost use Rattle.set.specs.Checks.{checkCall};
 ghost use Rattle.set.specs.Outcome.{held, lent};
 ghost use Rattle.triangles.specs.Taken.{givenUsed, givenTaken, usedFor, takenFor};
@@ -46,29 +48,23 @@ fn take_used(
     frame: &[f64],
     face_store: &[f64],
     sphere_store: &[f64],
-    origin: u8,
+    origin: Origin,
+    id: u8,
     polar: Polar,
 ) -> UsedAnswer
-    requires { ⌜ checkCall (held frame «face_store» «sphere_store») origin ≡ passed ⌝ }
-    ensures { λ r. ⌜ givenUsed r ≡ usedFor ieee ORIGINS (lent frame «face_store» «sphere_store» .entry) origin polar ⌝ }
+    requires { ⌜ (checkCall (held frame «face_store» «sphere_store») id ≡ passed) × (beyond 8·0 (origin .angle .0) ≡ false) ⌝ }
+    ensures { λ r. ⌜ givenUsed r ≡ usedFor ieee origin (lent frame «face_store» «sphere_store» .entry) id polar ⌝ }
 {
     let index = get_face_triangle_index(polar) as u8;
     let reflected = should_reflect(polar);
-    let slot = sphere_slot(origin, index, reflected);
+    let slot = sphere_slot(id, index, reflected);
     let source = source_slot(index, reflected);
-    match take_sphere(
-        frame,
-        face_store,
-        sphere_store,
-        get_origin(origin),
-        slot,
-        source,
-    ) {
+    match take_sphere(frame, face_store, sphere_store, origin, slot, source) {
         TriangleAnswer::Refused(n) => UsedAnswer::Refused(n),
         TriangleAnswer::Answered(triangle) => {
             let bxc = take_cross(sphere_store, slot, triangle);
             UsedAnswer::Answered(Used {
-                origin,
+                origin: id,
                 index,
                 reflected,
                 triangle,
@@ -79,21 +75,23 @@ fn take_used(
 }
 
 // The triangles of a point about an origin's axis, on any set: 1 to 4 are tried here too, so that
-// none has to be asked for.
+// none has to be asked for. Of the origin, which has the number id, only the angle has to be small.
 pub fn take(
     frame: &[f64],
     face_store: &[f64],
     sphere_store: &[f64],
-    origin: u8,
+    origin: Origin,
+    id: u8,
     polar: Polar,
 ) -> TakenAnswer
-    ensures { λ r. ⌜ givenTaken r ≡ takenFor ieee ORIGINS (lent frame «face_store» «sphere_store» .entry) origin polar ⌝ }
+    requires { ⌜ beyond 8·0 (origin .angle .0) ≡ false ⌝ }
+    ensures { λ r. ⌜ givenTaken r ≡ takenFor ieee origin (lent frame «face_store» «sphere_store» .entry) id polar ⌝ }
 {
-    let set = check_call(frame, face_store, sphere_store, origin);
+    let set = check_call(frame, face_store, sphere_store, id);
     if let Check::Refused(n) = set {
         return TakenAnswer::Refused(n);
     }
-    match take_used(frame, face_store, sphere_store, origin, polar) {
+    match take_used(frame, face_store, sphere_store, origin, id, polar) {
         UsedAnswer::Refused(n) => TakenAnswer::Refused(n),
         UsedAnswer::Answered(used) => {
             let face_triangle = take_face(face_store, face_slot(used.index, used.reflected));

@@ -2,16 +2,19 @@
 // in it. The refusals and what stands in the stores afterwards are document 01's, under its words.
 
 use crate::common::fields::{
-    lon_lat, of_lon_lat, of_spherical, of_triangle, of_whole, spherical, whole,
+    cartesian, lon_lat, of_lon_lat, of_spherical, of_triangle, of_whole, spherical, whole,
 };
+use crate::common::places::rows;
 use crate::common::refusals::{
-    check, finite, lengths, of_error, origin, FACE_LIMITS, LON_LAT_LIMITS, SPHERICAL_LIMITS,
+    self, check, finite, lengths, of_error, origin, FACE_LIMITS, LON_LAT_LIMITS, SPHERICAL_LIMITS,
 };
-use crate::common::sphere_slot::of_spherical_triangle;
+use crate::common::sizes::{FACE_SLOTS, SPHERE_SLOTS};
+use crate::common::sphere_slot::{of_spherical_triangle, spherical_triangle};
 use crate::set::{empty_projection, Set};
 use a5::coordinate_systems::{Face, Spherical};
 use a5::core::coordinate_transforms::{from_lon_lat, to_lon_lat};
-use a5::core::origin::find_nearest_origin;
+use a5::core::origin::{find_nearest_origin, oracle_with_table};
+use a5::projections::crs::CRS;
 use a5::projections::dodecahedron::DodecahedronProjection;
 
 #[derive(Clone, Copy, Debug, PartialEq)]
@@ -99,6 +102,22 @@ fn used(question: &Question) -> (Vec<usize>, usize) {
     has(&rust)
 }
 
+// The same with a table, with which a frame may lack vertices: every sphere slot is filled, so that no vertex is looked for, and the
+// one face slot that the call then fills says which triangle it takes. "Sphere slot is 10·origin + index, plus 120 if reflected."
+fn used_with(question: &Question) -> (Vec<usize>, usize) {
+    let any = spherical_triangle(&[1.0; 12]);
+    let (faces, spheres) = (vec![None; FACE_SLOTS], vec![Some(any); SPHERE_SLOTS]);
+    let rows = rows().iter().map(|row| cartesian(row)).collect();
+    let mut rust = DodecahedronProjection::oracle_with(CRS::oracle_with(rows), faces, spheres);
+    let _ = ask(&mut rust, question);
+    let (Question::Forward(_, id) | Question::Inverse(_, id)) = question;
+    match places(rust.oracle_face_triangles())[..] {
+        [i] if i < 10 => (vec![i], 10 * *id as usize + i),
+        [i] => (vec![i, i + 10], 10 * *id as usize + i - 10 + 120),
+        _ => panic!("one face slot"),
+    }
+}
+
 // The slots of the only triangles that a projection has.
 fn has(rust: &DodecahedronProjection) -> (Vec<usize>, usize) {
     let faces = places(rust.oracle_face_triangles());
@@ -110,7 +129,12 @@ fn has(rust: &DodecahedronProjection) -> (Vec<usize>, usize) {
 
 // "Empty used slots are written on success." The triangles are those that the Rust has by then, a sphere triangle with its b × c;
 // a slot 20+i that it did not need, since its sphere slot was filled, it is asked for.
-fn keep(set: &mut Set, rust: &mut DodecahedronProjection, question: &Question) {
+fn keep(
+    set: &mut Set,
+    rust: &mut DodecahedronProjection,
+    question: &Question,
+    used: fn(&Question) -> (Vec<usize>, usize),
+) {
     // without a filled slot the projection had no triangles before it was asked
     let (faces, sphere) = if set.is_empty() {
         has(rust)
@@ -136,8 +160,29 @@ pub fn call(call: Call, set: &mut Set, lent: [usize; 3], x: &[f64]) -> Result<Ve
     let mut rust = set.projection();
     let worked = ask(&mut rust, &question)?;
     let answer = answer(call, &question, worked)?;
-    keep(set, &mut rust, &question);
+    keep(set, &mut rust, &question, used);
     Ok(answer)
+}
+
+// The same with a table of which so many numbers are lent. "Each tests it by 21 and 22 right after 3."
+pub fn call_with(
+    table: &[f64],
+    call: Call,
+    set: &mut Set,
+    lent: [usize; 3],
+    x: &[f64],
+) -> Result<Vec<f64>, u8> {
+    refusals::table_length(table.len())?;
+    lengths(lent)?;
+    refusals::table(table)?;
+    oracle_with_table(table, || {
+        let question = question(call, x)?;
+        let mut rust = set.projection();
+        let worked = ask(&mut rust, &question)?;
+        let answer = answer(call, &question, worked)?;
+        keep(set, &mut rust, &question, used_with);
+        Ok(answer)
+    })
 }
 
 // The same answer from a projection that the Rust itself has kept since it was made, without marks and slots.

@@ -1,11 +1,13 @@
 // What document 01 says of single points, tried on the given Rust with the steps in it.
 
-use crate::calls::{call, Forward, Inverse, Place, Unplace};
-use crate::common::fields::{bits, whole};
+use crate::calls::{call, call_with, Forward, Inverse, Place, Unplace};
+use crate::common::fields::{bits, of_spherical, polar, whole};
 use crate::common::sizes::{FACE_SLOTS, RIGHT, SPHERE_COORDINATES, SPHERE_SLOTS};
 use crate::outside::KNOWN;
 use crate::set::{new_projection, Set};
 use a5::coordinate_systems::Face;
+use a5::core::origin::get_origins;
+use a5::core::utils::Origin;
 use std::f64::consts::PI;
 
 // The session of "The strike program", on one set.
@@ -107,6 +109,62 @@ fn cache_accident() {
     assert!(rust.inverse(Face::new(0.0, 0.0), 12).is_ok());
 }
 
+// The Rust's own origins as rows, with one number changed.
+fn rows_with(place: usize, x: f64) -> Vec<f64> {
+    let row = |o: &Origin| {
+        let ([x, y, z, w], axis) = (o.quat, of_spherical(o.axis));
+        [axis[0], axis[1], x, y, z, w, o.angle.get()]
+    };
+    let mut rows: Vec<f64> = get_origins().iter().flat_map(row).collect();
+    rows[place] = x;
+    rows
+}
+
+// Paper 10: its own rows as a table change nothing; the order of refusals; "refusals 7 and 8 may now occur".
+fn tables() {
+    let own = rows_with(0, 0.0);
+    let mut set = Set::opened_with(&own).expect("62 rows");
+    assert_eq!(bits(&set.frame), bits(&Set::opened().frame));
+    let (placed, mut plain) = ([16.3725, 48.2083], Set::opened());
+    let given = call_with(&own, Place, &mut set, RIGHT, &placed);
+    assert_eq!(given, call(Place, &mut plain, RIGHT, &placed));
+    assert_eq!(bits(&set.sphere), bits(&plain.sphere));
+
+    let x = [0.1, 0.1, whole(0)];
+    let none = [0, 0, 0];
+    let nan = rows_with(83, f64::NAN);
+    let mut asked = |rows: &[f64], lent, x: &[f64]| call_with(rows, Inverse, &mut set, lent, x);
+    assert_eq!(asked(&nan[1..], none, &x), Err(20));
+    assert_eq!(asked(&nan, none, &x), Err(1));
+    let mut both = nan;
+    both[5] = 0.5;
+    assert_eq!(asked(&both, RIGHT, &[0.1, 0.1, whole(12)]), Err(21));
+    let off = rows_with(5, 0.5);
+    assert_eq!(asked(&off, RIGHT, &[0.1, 0.1, whole(12)]), Err(22));
+    assert_eq!(asked(&own, RIGHT, &[0.1, 0.1, whole(12)]), Err(4));
+
+    assert_eq!(Set::opened_with(&rows_with(6, 1.0)).err(), Some(7));
+    let other_axis = rows_with(1, 0.25);
+    let mut set = Set::opened_with(&other_axis).expect("62 rows");
+    for asked in [Inverse, Unplace] {
+        let given = call_with(&other_axis, asked, &mut set, RIGHT, &x);
+        assert_eq!(given, Err(8));
+    }
+    assert!(set.is_empty());
+}
+
+// "The index in 0..9 also where an angle takes gamma below −2π": at the first double below it, and where a row's angle is 8.
+fn index_below() {
+    let rust = new_projection();
+    let index = |gamma| rust.oracle_triangle_index(polar([0.3, gamma]));
+    assert_eq!(index(-6.283185307179587), 9);
+    assert!((0..2000).all(|k| index(-f64::from(k) / 150.0) < 10));
+    let rows = rows_with(6, 7.539822368615503);
+    let mut set = Set::opened_with(&rows).expect("62 rows: the angle is six fifths of a turn");
+    let x = [-2.0, 0.3, whole(0)];
+    assert!(call_with(&rows, Forward, &mut set, RIGHT, &x).is_ok());
+}
+
 pub fn run() {
     session();
     refusals();
@@ -114,4 +172,6 @@ pub fn run() {
     cross_product();
     outside();
     cache_accident();
+    tables();
+    index_below();
 }

@@ -6,6 +6,7 @@ use crate::common::sizes::{
     FACE_SLOTS, FACE_STORE, FACE_WIDTH, FRAME, SPHERE_SLOTS, SPHERE_STORE, SPHERE_WIDTH,
 };
 use crate::common::sphere_slot::{of_spherical_triangle, spherical_triangle};
+use a5::core::origin::oracle_with_table;
 use a5::projections::crs::CRS;
 use a5::projections::dodecahedron::DodecahedronProjection;
 
@@ -46,6 +47,15 @@ impl Set {
             face: vec![0.0; FACE_STORE],
             sphere: vec![0.0; SPHERE_STORE],
         }
+    }
+
+    // The same with a table, which passed 21 and 22. "7: the frame that open makes hasn't 62 rows": the Rust's own failure.
+    pub fn opened_with(table: &[f64]) -> Result<Set, u8> {
+        let crs = oracle_with_table(table, CRS::new).map_err(|_| 7)?;
+        let rows = crs.oracle_rows().iter().map(|row| <[f64; 3]>::from(*row));
+        let mut set = Set::filled_with([0.0; 3]);
+        set.frame = rows.collect::<Vec<_>>().concat();
+        Ok(set)
     }
 
     pub fn filled_with(numbers: [f64; 3]) -> Set {

@@ -2,7 +2,7 @@
 
 use crate::outcome::{show, Outcome};
 
-pub const CALLS: [&str; 15] = [
+pub const CALLS: [&str; 23] = [
     "open",
     "forward",
     "inverse",
@@ -18,6 +18,14 @@ pub const CALLS: [&str; 15] = [
     "fair_turns",
     "sqrt",
     "sqrt_rounds",
+    "open_with",
+    "forward_with",
+    "inverse_with",
+    "place_with",
+    "unplace_with",
+    "nearest_with",
+    "table_load",
+    "table_save",
 ];
 pub const OPEN: usize = 0;
 // the four calls on a set follow in the order of the enum
@@ -32,6 +40,11 @@ pub const BOX_TAKE: usize = 11;
 pub const FAIR_TURNS: usize = 12;
 pub const SQRT: usize = 13;
 pub const SQRT_ROUNDS: usize = 14;
+pub const OPEN_WITH: usize = 15;
+pub const FORWARD_WITH: usize = 16;
+pub const NEAREST_WITH: usize = 20;
+pub const TABLE_LOAD: usize = 21;
+pub const TABLE_SAVE: usize = 22;
 
 #[derive(Clone, Copy, PartialEq)]
 pub enum Where {

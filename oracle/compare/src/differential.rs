@@ -14,6 +14,7 @@ use crate::roots::Roots;
 use crate::script::Script;
 use crate::set::Set;
 use crate::spoil::Spoil;
+use crate::tables::Tables;
 use crate::turns_compared::Turns;
 use crate::{conversions, nearest, outside, refused, sheets, windows};
 
@@ -25,7 +26,7 @@ const A_SET: u64 = 4;
 const A_LIST: u64 = 20_000;
 
 // The way back from an answer, which has its numbers as the other call takes them.
-fn back(call: Call, x: &[f64], answer: &[f64]) -> (Call, Vec<f64>) {
+pub fn back(call: Call, x: &[f64], answer: &[f64]) -> (Call, Vec<f64>) {
     match call {
         Forward => (Inverse, vec![answer[0], answer[1], x[2]]),
         Inverse => (Forward, vec![answer[0], answer[1], x[2]]),
@@ -122,6 +123,7 @@ struct Run {
     boxes: Boxes,
     turns: Turns,
     roots: Roots,
+    tables: Tables,
 }
 
 impl Run {
@@ -142,6 +144,7 @@ impl Run {
             boxes: Boxes::new(library(Where::Alone), library(Where::Foreign)),
             turns: Turns::new(seed, library(Where::Alone)),
             roots: Roots::new(seed, library(Where::Alone)),
+            tables: Tables::new(library),
         }
     }
 
@@ -169,6 +172,7 @@ impl Run {
         self.boxes.turn(&mut self.draw, &self.kept.set);
         self.turns.any();
         self.roots.any();
+        self.tables.turn(&mut self.draw, turn);
     }
 }
 
@@ -192,6 +196,7 @@ pub fn run(n: u64, seed: u64, spoil: Option<Spoil>) {
     let mut counts = run.alone.counts;
     counts.add(&run.turns.counts);
     counts.add(&run.roots.counts);
+    counts.add(&run.tables.counts);
     for script in [&run.kept, &run.opened, &run.foreign] {
         counts.add(&script.counts);
     }

@@ -5,8 +5,8 @@ use crate::common::fields::{of_whole, whole};
 use crate::common::sizes::{RIGHT, SPHERE_COORDINATES, SPHERE_STORE, SPHERE_WIDTH};
 use crate::common::sphere_slot::with_cross_product;
 use crate::counts::{
-    FAIR_TURNS, FORWARD, FROM_LON_LAT, NEAREST, OPEN, SHOW, SLOT_STATE, SQRT, SQRT_ROUNDS,
-    TO_LON_LAT,
+    FAIR_TURNS, FORWARD, FORWARD_WITH, FROM_LON_LAT, NEAREST, NEAREST_WITH, OPEN, OPEN_WITH, SHOW,
+    SLOT_STATE, SQRT, SQRT_ROUNDS, TABLE_LOAD, TABLE_SAVE, TO_LON_LAT,
 };
 use crate::outcome::{show, Outcome, BEFORE};
 use crate::raw;
@@ -30,6 +30,13 @@ fn of_byte(byte: u8) -> f64 {
 // Places for grants, those that are not lent first.
 pub fn of_places(places: &[u16], lent: usize) -> Vec<f64> {
     let (lent, behind) = places.split_at(lent);
+    let all = behind.iter().chain(lent);
+    all.map(|n| whole(usize::from(*n))).collect()
+}
+
+// Bytes, those that are not lent first.
+pub fn of_bytes(bytes: &[u8], lent: usize) -> Vec<f64> {
+    let (lent, behind) = bytes.split_at(lent);
     let all = behind.iter().chain(lent);
     all.map(|n| whole(usize::from(*n))).collect()
 }
@@ -181,6 +188,65 @@ impl Library {
         let mut id = BYTE_BEFORE;
         let status = unsafe { raw::a5_nearest(x[0], x[1], &mut id) };
         self.ended(NEAREST, status, vec![of_byte(id)], None)
+    }
+
+    pub fn open_with(&mut self, buffers: &mut Buffers, table: &[f64], lent: [usize; 3]) -> Outcome {
+        let [frame, face, sphere] = &mut buffers.numbers;
+        let (frame, face, sphere) = (frame.as_mut_ptr(), face.as_mut_ptr(), sphere.as_mut_ptr());
+        let (rows, n, [a, b, c]) = (table.as_ptr(), table.len(), lent);
+        let status = unsafe { raw::a5_open_with(rows, n, frame, a, face, b, sphere, c) };
+        self.ended(OPEN_WITH, status, vec![], Some(buffers))
+    }
+
+    pub fn call_with(
+        &mut self,
+        buffers: &mut Buffers,
+        table: &[f64],
+        call: Call,
+        lent: [usize; 3],
+        x: &[f64],
+    ) -> Outcome {
+        let [frame, face, sphere] = &mut buffers.numbers;
+        let (frame, face, sphere) = (frame.as_ptr(), face.as_mut_ptr(), sphere.as_mut_ptr());
+        let ([a, b, c], [p, q]) = (lent, [x[0], x[1]]);
+        let (rows, n) = (table.as_ptr(), table.len());
+        let mut to = [BEFORE; 2];
+        let (status, numbers) = if call == Place {
+            let (mut id, place) = (BYTE_BEFORE, raw::a5_place_with);
+            let (id_to, two) = (&mut id, &mut to);
+            let status = unsafe { place(rows, n, frame, a, face, b, sphere, c, p, q, id_to, two) };
+            (status, vec![of_byte(id), to[0], to[1]])
+        } else {
+            let function = match call {
+                Forward => raw::a5_forward_with,
+                Inverse => raw::a5_inverse_with,
+                _ => raw::a5_unplace_with,
+            };
+            let (id, two) = (of_whole(x[2]) as u8, &mut to);
+            let status = unsafe { function(rows, n, frame, a, face, b, sphere, c, p, q, id, two) };
+            (status, to.to_vec())
+        };
+        self.ended(FORWARD_WITH + call as usize, status, numbers, Some(buffers))
+    }
+
+    pub fn nearest_with(&mut self, table: &[f64], x: [f64; 2]) -> Outcome {
+        let mut id = BYTE_BEFORE;
+        let (rows, n) = (table.as_ptr(), table.len());
+        let status = unsafe { raw::a5_nearest_with(rows, n, x[0], x[1], &mut id) };
+        self.ended(NEAREST_WITH, status, vec![of_byte(id)], None)
+    }
+
+    pub fn table_load(&mut self, file: &[u8]) -> Outcome {
+        let mut table = [BEFORE; 84];
+        let status = unsafe { raw::a5_table_load(file.as_ptr(), file.len(), &mut table) };
+        self.ended(TABLE_LOAD, status, table.to_vec(), None)
+    }
+
+    // All bytes, those that are not lent first, as whole numbers.
+    pub fn table_save(&mut self, table: &[f64], bytes: &mut [u8], lent: usize) -> Outcome {
+        let (rows, n, to) = (table.as_ptr(), table.len(), bytes.as_mut_ptr());
+        let status = unsafe { raw::a5_table_save(rows, n, to, lent) };
+        self.ended(TABLE_SAVE, status, of_bytes(bytes, lent), None)
     }
 
     pub fn from_lon_lat(&mut self, x: [f64; 2]) -> Outcome {

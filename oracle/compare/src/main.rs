@@ -59,6 +59,8 @@ mod step_distance;
 #[allow(dead_code)]
 #[path = "../../elementary/src/steps.rs"]
 mod steps;
+mod table_draw;
+mod tables;
 #[allow(dead_code)]
 #[path = "../../window/src/window.rs"]
 mod window;

@@ -31,13 +31,16 @@ fn can_be(call: &str, what: &str, place: &str) -> bool {
     match call {
         "forward" | "place" if what == FORMED => place == "foreign",
         _ if what == FORMED => false,
-        "open" if what == "b × c" => false,
-        "inverse" | "unplace" => place != "no set",
+        "open" | "open_with" if what == "b × c" => false,
+        "inverse" | "unplace" | "inverse_with" | "unplace_with" => place != "no set",
         _ if is_19 => false,
-        "nearest" | "from_lon_lat" | "to_lon_lat" => place == "no set" && !buffers,
+        "table_save" => place == "no set" && ["status", "left", "behind", "answer"].contains(&what),
+        "nearest" | "nearest_with" | "table_load" | "from_lon_lat" | "to_lon_lat" => {
+            place == "no set" && !buffers
+        }
         "fair_turns" => place == "no set" && (!buffers || what == "behind"),
         "sqrt" | "sqrt_rounds" => place == "no set" && what == "answer",
-        "open" => place == "newly opened" && (buffers || what == "status"),
+        "open" | "open_with" => place == "newly opened" && (buffers || what == "status"),
         "box_new" => place == "foreign" && ["answer", "status", "behind"].contains(&what),
         "box_take" => ["foreign", "no set"].contains(&place) && (!buffers || what == "behind"),
         "show" | "slot_state" => ["kept set", "foreign"].contains(&place),

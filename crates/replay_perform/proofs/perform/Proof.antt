@@ -1,9 +1,13 @@
 -- `perform` meets its contract: it leaves the set as `step` has it. Assumes nothing.
 use mathlib.Core.Path.{sym, ap, _∙_}
 use borrow.Author.Needs.{needs}
+use Rattle.arithmetic.specs.Arith.{ieee}
+use Rattle.origin.specs.Origins.{ORIGINS}
 use Rattle.set.specs.Set.{setOf}
-use Rattle.histories.specs.Lists.{step}
-use Rattle.replay_perform.specs.Performed.{callOf}
+use Rattle.dodecahedron.specs.Work.{usedOf}
+use Rattle.dodecahedron.specs.Calls.{forwardGiven, inverseGiven, placeGiven, unplaceGiven}
+use Rattle.histories.proofs.Alone.{alone-left}
+use Rattle.replay_perform.specs.Performed.{performed}
 use Rattle.replay_perform.specs.declared.Call.{Call}
 use Rattle.replay_perform.proofs.perform.Statement.{statement}
 use Rattle.replay_perform.proofs.perform.Tie as tie
@@ -20,7 +24,7 @@ returns c =
     let entry = at-buffers .before in
     let a = entry .args in
     let s = setOf (a .frame .now) (a .face-store .now) (a .sphere-store .now) in
-    at-open .«open» .ensures .left ∙ ap (λ (k : Call). step s (callOf k)) (sym (at-enum-told .enum-told .given .1))
+    at-open .«open» .ensures .left ∙ ap (λ (k : Call). performed s k) (sym (at-enum-told .enum-told .given .1))
 
 returns-2 : tie.Need-returns-2
 returns-2 c =
@@ -33,7 +37,8 @@ returns-2 c =
     let entry = at-buffers .before in
     let a = entry .args in
     let s = setOf (a .frame .now) (a .face-store .now) (a .sphere-store .now) in
-    at-forward .forward .ensures .left ∙ ap (λ (k : Call). step s (callOf k)) (sym (at-call .call .given .1))
+    let used = usedOf (forwardGiven ieee ORIGINS s (at-call .call .given .0 .0) (at-call .call .given .0 .1 .0)) in
+    at-forward .forward .ensures .left ∙ alone-left s used ∙ ap (λ (k : Call). performed s k) (sym (at-call .call .given .1))
 
 returns-3 : tie.Need-returns-3
 returns-3 c =
@@ -46,7 +51,8 @@ returns-3 c =
     let entry = at-buffers .before in
     let a = entry .args in
     let s = setOf (a .frame .now) (a .face-store .now) (a .sphere-store .now) in
-    at-inverse .inverse .ensures .left ∙ ap (λ (k : Call). step s (callOf k)) (sym (at-call2 .call2 .given .1))
+    let used = usedOf (inverseGiven ieee ORIGINS s (at-call2 .call2 .given .0 .0) (at-call2 .call2 .given .0 .1 .0)) in
+    at-inverse .inverse .ensures .left ∙ alone-left s used ∙ ap (λ (k : Call). performed s k) (sym (at-call2 .call2 .given .1))
 
 returns-4 : tie.Need-returns-4
 returns-4 c =
@@ -59,7 +65,8 @@ returns-4 c =
     let entry = at-buffers .before in
     let a = entry .args in
     let s = setOf (a .frame .now) (a .face-store .now) (a .sphere-store .now) in
-    at-place .place .ensures .left ∙ ap (λ (k : Call). step s (callOf k)) (sym (at-call3 .call3 .given .1))
+    let used = usedOf (placeGiven ieee ORIGINS s (at-call3 .call3 .given .0 .0)) in
+    at-place .place .ensures .left ∙ alone-left s used ∙ ap (λ (k : Call). performed s k) (sym (at-call3 .call3 .given .1))
 
 returns-5 : tie.Need-returns-5
 returns-5 c =
@@ -72,7 +79,8 @@ returns-5 c =
     let entry = at-buffers .before in
     let a = entry .args in
     let s = setOf (a .frame .now) (a .face-store .now) (a .sphere-store .now) in
-    at-unplace .unplace .ensures .left ∙ ap (λ (k : Call). step s (callOf k)) (sym (at-call4 .call4 .given .1))
+    let used = usedOf (unplaceGiven ieee ORIGINS s (at-call4 .call4 .given .0 .0) (at-call4 .call4 .given .0 .1 .0)) in
+    at-unplace .unplace .ensures .left ∙ alone-left s used ∙ ap (λ (k : Call). performed s k) (sym (at-call4 .call4 .given .1))
 
 returns-6 : tie.Need-returns-6
 returns-6 c =
@@ -83,7 +91,7 @@ returns-6 c =
     let entry = at-buffers .before in
     let a = entry .args in
     let s = setOf (a .frame .now) (a .face-store .now) (a .sphere-store .now) in
-    ap (λ (k : Call). step s (callOf k)) (sym (at-call5 .call5 .given .1))
+    ap (λ (k : Call). performed s k) (sym (at-call5 .call5 .given .1))
 
 returns-7 : tie.Need-returns-7
 returns-7 c =
@@ -94,7 +102,7 @@ returns-7 c =
     let entry = at-buffers .before in
     let a = entry .args in
     let s = setOf (a .frame .now) (a .face-store .now) (a .sphere-store .now) in
-    ap (λ (k : Call). step s (callOf k)) (sym (at-call6 .call6 .given .1))
+    ap (λ (k : Call). performed s k) (sym (at-call6 .call6 .given .1))
 
 pub perform-spec : {M : Type 1} → statement M
 perform-spec =

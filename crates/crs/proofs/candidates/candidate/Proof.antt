@@ -18,4 +18,4 @@ unfolding candidate
 returns-3 c = rw (le-ltb _ _ (c .before .before .if1 .left), candidate) (rw (le-ltb _ _ (c .before .if2 .left)) (c .midpoint .ensures))
 
 pub candidate-spec : {M : Type 1} → statement M
-candidate-spec = tie.close (tie.spec (λ c κs. tt) returns (λ c κs. search needs) returns-2 (λ c κs. search needs) returns-3)
+candidate-spec = tie.close (tie.spec (λ c κs. search needs) returns (λ c κs. search needs) returns-2 (λ c κs. search needs) returns-3)

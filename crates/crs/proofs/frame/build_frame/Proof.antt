@@ -5,7 +5,6 @@ use Prim.Native.Nat.{_-_, _*_, _≤_, zero-le}
 use native.Mathlib.Omega.{arith}
 use lib.ListN.{length, take, drop}
 use Rattle.arithmetic.specs.Arith.{ieee}
-use Rattle.origin.specs.Origins.{ORIGINS}
 use Rattle.crs.specs.Frame.{addRows, frameRows}
 use Rattle.crs.proofs.Stores.{drop-later, joined, front-length}
 use Rattle.crs.proofs.Rows.{next-candidate}
@@ -13,15 +12,15 @@ use Rattle.crs.proofs.frame.build_frame.Statement.{statement}
 use Rattle.crs.proofs.frame.build_frame.Tie as tie
 
 abbrev Inv-loop : tie.InvT-loop
-Inv-loop rows₀ used₀ k₀ rows used k =
+Inv-loop table rows₀ used₀ k₀ rows used k =
     (used ≤ 3 * k)
     × (k ≤ 132)
     × (used ≤ length rows)
-    × (addRows ieee ORIGINS (132 - k) k (take used rows) ≡ frameRows ieee ORIGINS)
+    × (addRows ieee table (132 - k) k (take used rows) ≡ frameRows ieee table)
     × (drop used rows ≡ drop used rows₀)
 
 abbrev μ-loop : tie.MeasureT-loop
-μ-loop rows₀ used₀ k₀ rows used k = 132 - k
+μ-loop table rows₀ used₀ k₀ rows used k = 132 - k
 
 loop-holds : tie.Need-loop-holds Inv-loop μ-loop
 unfolding frameRows
@@ -31,12 +30,13 @@ loop-again : tie.Need-loop-again Inv-loop μ-loop
 loop-again c =
     let turn = c .before .before .before in
     let v = turn .before .loop in
-    let start = turn .before .before .args .rows .now in
+    let a = turn .before .before .args in
+    let start = a .rows .now in
     let e = rw (c .before .candidate .ensures) at (c .add .ensures .0) in (
       omega arith,
       omega arith,
       omega (arith, c .add .kept .0),
-      rw e (sym (next-candidate ieee ORIGINS 132 (v .k) (take (v .used) (v .rows)) (omega arith)) ∙ v .inv .3),
+      rw e (sym (next-candidate ieee (a .table .now) 132 (v .k) (take (v .used) (v .rows)) (omega arith)) ∙ v .inv .3),
       c .add .ensures .1 .0 ∙ drop-later (v .rows) start (v .used) (c .add .result) (c .add .ensures .1 .1 .0) (v .inv .4),
     )
 
@@ -55,7 +55,7 @@ build-frame-spec =
     Inv-loop
     μ-loop
     loop-holds
-    (λ c κs. tt)
+    (λ c κs. (c .before .before .before .pre, omega arith))
     (λ c κs. omega arith)
     (λ c. omega arith)
     (λ c. omega arith)

@@ -8,9 +8,9 @@ use Rattle.arithmetic.specs.Arith.{ieee}
 use Rattle.coordinates.specs.Conversions.{checkSpherical}
 use Rattle.coordinates.proofs.Sizes.{passed-inside}
 use Rattle.origin.specs.Origins.{ORIGINS}
-use Rattle.set.specs.Checks.{checkCall}
+use Rattle.origin.proofs.Sizes.{angle-small}
 use Rattle.set.specs.Outcome.{held}
-use Rattle.dodecahedron.proofs.Ended.{forward-is}
+use Rattle.dodecahedron.proofs.Ended.{testsOn, built-in-tests, forward-is}
 use Rattle.dodecahedron.proofs.calls.forward_work.Statement.{statement}
 use Rattle.dodecahedron.proofs.calls.forward_work.Tie as tie
 
@@ -24,12 +24,14 @@ start c =
 abbrev tests : tie.Start → Given (Unit {0})
 tests c =
     let a = c .args in
-    andThen (checkCall (held (a .frame) (a .face-store) (a .sphere-store)) (a .origin)) (checkSpherical (a .spherical))
+    andThen (testsOn ieee ORIGINS (held (a .frame) (a .face-store) (a .sphere-store)) (a .origin)) (checkSpherical (a .spherical))
 
 tested : (c : tie.After-first-refusal) → givenCheck (c .first-refusal .result) ≡ tests (start c)
 tested c =
     let set = c .before .before in
-    rw (c .first-refusal .ensures, set .check-call .ensures, c .before .check-spherical .ensures)
+    let a = start c .args in
+    let built-in = built-in-tests (held (a .frame) (a .face-store) (a .sphere-store)) (a .origin) in
+    rw (c .first-refusal .ensures, set .check-call .ensures, c .before .check-spherical .ensures, built-in)
 
 passes : (c : tie.After-enum-told) → tests (start (c .before .before)) ≡ passed
 passes c = sym (tested (c .before .before)) ∙ ap givenCheck (c .enum-told .given .1)
@@ -42,13 +44,16 @@ returns c =
 
 forward-core-requires : tie.Need-forward-core-requires
 forward-core-requires c κs =
-    let both = then-answered _ _ tt (passes c) in
-    (both .0, passed-inside _ (both .1))
+    let told = c .before in
+    let both = then-answered _ _ tt (passes told) in
+    ((sym (built-in-tests _ _) ∙ both .0, rw (c .get-origin .ensures) (angle-small _)), passed-inside _ (both .1))
 
 returns-2 : tie.Need-returns-2
 returns-2 c =
     let core = c .before in
-    rw (c .finish-face .ensures, core .forward-core .ensures) (sym (forward-is ieee ORIGINS _ _ _ ∙ then-passed _ _ (passes (core .before))))
+    let origin = core .before in
+    rw (c .finish-face .ensures, core .forward-core .ensures, origin .get-origin .ensures)
+    (sym (forward-is ieee ORIGINS _ _ _ ∙ then-passed _ _ (passes (origin .before))))
 
 pub forward-work-spec : {M : Type 1} → statement M
 forward-work-spec =
@@ -60,6 +65,7 @@ forward-work-spec =
     (λ c. search needs)
     returns
     (λ c. search needs)
+    (λ c κs. search needs)
     forward-core-requires
     (λ c κs. search needs)
     returns-2)

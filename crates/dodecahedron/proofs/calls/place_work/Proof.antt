@@ -8,10 +8,12 @@ use Rattle.arithmetic.specs.Arith.{ieee}
 use Rattle.coordinates.specs.Conversions.{checkLonLat}
 use Rattle.coordinates.proofs.Sizes.{latitude-inside, from-lon-lat-inside}
 use Rattle.origin.specs.Origins.{ORIGINS}
+use Rattle.origin.proofs.Sizes.{angle-small}
 use Rattle.origin.proofs.LowestNearest.{nearest-is}
-use Rattle.set.specs.Set.{checkSet}
+use Rattle.set.specs.Checks.{checkWith}
 use Rattle.set.specs.Outcome.{held}
-use Rattle.set.proofs.Lengths.{set-passed, call-passes}
+use Rattle.set.proofs.Lengths.{with-passed, call-passes}
+use Rattle.set.proofs.Opening.{built-in-check}
 use Rattle.dodecahedron.proofs.Ended.{place-is, place-refused}
 use Rattle.dodecahedron.proofs.calls.place_work.Statement.{statement}
 use Rattle.dodecahedron.proofs.calls.place_work.Tie as tie
@@ -26,12 +28,14 @@ start c =
 abbrev tests : tie.Start → Given (Unit {0})
 tests c =
     let a = c .args in
-    andThen (checkSet (held (a .frame) (a .face-store) (a .sphere-store))) (checkLonLat (a .lonlat))
+    andThen (checkWith ieee ORIGINS (held (a .frame) (a .face-store) (a .sphere-store))) (checkLonLat (a .lonlat))
 
 tested : (c : tie.After-first-refusal) → givenCheck (c .first-refusal .result) ≡ tests (start c)
 tested c =
     let set = c .before .before in
-    rw (c .first-refusal .ensures, set .check-set .ensures, c .before .check-lon-lat .ensures)
+    let a = start c .args in
+    let built-in = built-in-check (held (a .frame) (a .face-store) (a .sphere-store)) in
+    rw (c .first-refusal .ensures, set .check-set .ensures, c .before .check-lon-lat .ensures, built-in)
 
 passes : (c : tie.After-enum-told) → tests (start (c .before .before)) ≡ passed
 passes c = sym (tested (c .before .before)) ∙ ap givenCheck (c .enum-told .given .1)
@@ -44,7 +48,7 @@ returns c =
 position-passes : (c : tie.After-enum-told) → checkLonLat (start (c .before .before) .args .lonlat) ≡ passed
 position-passes c =
     let a = start (c .before .before) .args in
-    then-answered (checkSet (held (a .frame) (a .face-store) (a .sphere-store))) _ tt (passes c) .1
+    then-answered (checkWith ieee ORIGINS (held (a .frame) (a .face-store) (a .sphere-store))) _ tt (passes c) .1
 
 from-lon-lat-requires : tie.Need-from-lon-lat-requires
 from-lon-lat-requires c κs = latitude-inside _ (position-passes c)
@@ -54,19 +58,25 @@ find-nearest-origin-requires c κs = rw (c .from-lon-lat .ensures) (from-lon-lat
 
 forward-core-requires : tie.Need-forward-core-requires
 forward-core-requires c κs =
-    let position = c .before in
-    let set-passes = then-answered _ _ tt (passes (position .before)) .0 in (
-      call-passes _ _ (set-passed _ set-passes) (rw (c .find-nearest-origin .ensures) (nearest-is ieee ORIGINS _ .origin)),
+    let nearest = c .before in
+    let position = nearest .before in
+    let set-passes = with-passed ieee ORIGINS _ (then-answered _ _ tt (passes (position .before)) .0) .0 in (
+      (
+        call-passes _ _ set-passes (rw (nearest .find-nearest-origin .ensures) (nearest-is ieee ORIGINS _ .origin)),
+        rw (c .get-origin .ensures) (angle-small _),
+      ),
       rw (position .from-lon-lat .ensures) (from-lon-lat-inside _ (position-passes (position .before))),
     )
 
 returns-2 : tie.Need-returns-2
 returns-2 c =
     let core = c .before in
-    let nearest = core .before in
+    let origin = core .before in
+    let nearest = origin .before in
     let position = nearest .before in
     let is = place-is ieee ORIGINS _ _ _ _ (position .from-lon-lat .ensures) (nearest .find-nearest-origin .ensures) in
-    rw (c .finish-place .ensures, core .forward-core .ensures) (sym (is ∙ then-passed _ _ (passes (position .before))))
+    rw (c .finish-place .ensures, core .forward-core .ensures, origin .get-origin .ensures)
+    (sym (is ∙ then-passed _ _ (passes (position .before))))
 
 pub place-work-spec : {M : Type 1} → statement M
 place-work-spec =
@@ -80,6 +90,7 @@ place-work-spec =
     (λ c. search needs)
     from-lon-lat-requires
     find-nearest-origin-requires
+    (λ c κs. search needs)
     forward-core-requires
     (λ c κs. search needs)
     returns-2)

@@ -7,10 +7,10 @@ use Rattle.answer.proofs.Given.{then-answered, then-passed, then-refused}
 use Rattle.arithmetic.specs.Arith.{ieee}
 use Rattle.coordinates.specs.Conversions.{checkFace}
 use Rattle.origin.specs.Origins.{ORIGINS}
-use Rattle.set.specs.Checks.{checkCall}
+use Rattle.origin.proofs.Sizes.{angle-small}
 use Rattle.set.specs.Outcome.{held}
 use Rattle.dodecahedron.proofs.Sizes.{inverse-colatitude}
-use Rattle.dodecahedron.proofs.Ended.{unplace-is}
+use Rattle.dodecahedron.proofs.Ended.{testsOn, built-in-tests, unplace-is}
 use Rattle.dodecahedron.proofs.calls.unplace_work.Statement.{statement}
 use Rattle.dodecahedron.proofs.calls.unplace_work.Tie as tie
 
@@ -24,12 +24,14 @@ start c =
 abbrev tests : tie.Start → Given (Unit {0})
 tests c =
     let a = c .args in
-    andThen (checkCall (held (a .frame) (a .face-store) (a .sphere-store)) (a .origin)) (checkFace (a .face))
+    andThen (testsOn ieee ORIGINS (held (a .frame) (a .face-store) (a .sphere-store)) (a .origin)) (checkFace (a .face))
 
 tested : (c : tie.After-first-refusal) → givenCheck (c .first-refusal .result) ≡ tests (start c)
 tested c =
     let set = c .before .before in
-    rw (c .first-refusal .ensures, set .check-call .ensures, c .before .check-face .ensures)
+    let a = start c .args in
+    let built-in = built-in-tests (held (a .frame) (a .face-store) (a .sphere-store)) (a .origin) in
+    rw (c .first-refusal .ensures, set .check-call .ensures, c .before .check-face .ensures, built-in)
 
 passes : (c : tie.After-enum-told) → tests (start (c .before .before)) ≡ passed
 passes c = sym (tested (c .before .before)) ∙ ap givenCheck (c .enum-told .given .1)
@@ -41,15 +43,19 @@ returns c =
     sym (unplace-is ieee ORIGINS _ _ _ ∙ then-refused _ _ _ refused)
 
 inverse-core-requires : tie.Need-inverse-core-requires
-inverse-core-requires c κs = then-answered _ _ tt (passes c) .0
+inverse-core-requires c κs =
+    let told = c .before in
+    (sym (built-in-tests _ _) ∙ then-answered _ _ tt (passes told) .0, rw (c .get-origin .ensures) (angle-small _))
 
 finish-lon-lat-requires : tie.Need-finish-lon-lat-requires
-finish-lon-lat-requires c κs w e = inverse-colatitude ORIGINS _ _ _ w (sym (c .inverse-core .ensures) ∙ e)
+finish-lon-lat-requires c κs w e = inverse-colatitude _ _ _ _ w (sym (c .inverse-core .ensures) ∙ e)
 
 returns-2 : tie.Need-returns-2
 returns-2 c =
     let core = c .before in
-    rw (c .finish-lon-lat .ensures, core .inverse-core .ensures) (sym (unplace-is ieee ORIGINS _ _ _ ∙ then-passed _ _ (passes (core .before))))
+    let origin = core .before in
+    rw (c .finish-lon-lat .ensures, core .inverse-core .ensures, origin .get-origin .ensures)
+    (sym (unplace-is ieee ORIGINS _ _ _ ∙ then-passed _ _ (passes (origin .before))))
 
 pub unplace-work-spec : {M : Type 1} → statement M
 unplace-work-spec =
@@ -61,6 +67,7 @@ unplace-work-spec =
     (λ c. search needs)
     returns
     (λ c. search needs)
+    (λ c κs. search needs)
     inverse-core-requires
     finish-lon-lat-requires
     returns-2)

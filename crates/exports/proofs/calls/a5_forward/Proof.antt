@@ -2,7 +2,7 @@
 use mathlib.Core.Path.{refl, sym, ap, _∙_}
 use borrow.Author.Needs.{needs}
 use Rattle.coordinates.specs.Conversions.{givenFace}
-use Rattle.exports.proofs.Returns.{returns-answer, returns-refusal}
+use Rattle.border.proofs.Returns.{returns-answer, returns-refusal}
 use Rattle.exports.proofs.calls.a5_forward.Statement.{statement}
 use Rattle.exports.proofs.calls.a5_forward.Tie as tie
 

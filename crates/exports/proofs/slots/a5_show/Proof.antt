@@ -6,7 +6,7 @@ use Rattle.show.proofs.Fits.{slot-fits}
 use Rattle.show.specs.Show.{givenState, slotGiven}
 use Rattle.show.specs.declared.StoreKind.{StoreKind}
 use Rattle.exports.specs.Slots.{part}
-use Rattle.exports.proofs.Returns.{returns-answer, returns-refusal}
+use Rattle.border.proofs.Returns.{returns-answer, returns-refusal}
 use Rattle.exports.proofs.slots.a5_show.Statement.{statement}
 use Rattle.exports.proofs.slots.a5_show.Tie as tie
 

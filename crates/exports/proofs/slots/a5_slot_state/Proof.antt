@@ -5,7 +5,7 @@ use Rattle.answer.specs.Given.{Given}
 use Rattle.show.specs.Show.{givenState, slotGiven}
 use Rattle.show.specs.declared.StoreKind.{StoreKind}
 use Rattle.exports.specs.Slots.{part}
-use Rattle.exports.proofs.Returns.{returns-answer, returns-refusal}
+use Rattle.border.proofs.Returns.{returns-answer, returns-refusal}
 use Rattle.exports.proofs.slots.a5_slot_state.Statement.{statement}
 use Rattle.exports.proofs.slots.a5_slot_state.Tie as tie
 

@@ -5,8 +5,6 @@ use native.Mathlib.Omega.{arith}
 use Prim.Native.Nat.{_<_}
 use lib.ListN.{length}
 use Rattle.arithmetic.specs.Arith.{ieee}
-use Rattle.origin.specs.Origins.{ORIGINS}
-use Rattle.origin.proofs.Sizes.{angle-small}
 use Rattle.tiling.proofs.Modulo.{index-below-10}
 use Rattle.set.specs.Sizes.{SPHERE-SLOTS, SPHERE-STORE}
 use Rattle.set.proofs.Lengths.{call-passed}
@@ -32,53 +30,48 @@ start c =
 sphere-there : (c : tie.After-sphere-slot) → (c .sphere-slot .result < SPHERE-SLOTS) × (length (start c .args .sphere-store .now) ≡ SPHERE-STORE)
 sphere-there c =
     let reflect = c .before in
-    let fits = call-passed _ _ (start c .pre) in
+    let fits = call-passed _ _ (start c .pre .0) in
     (rw (c .sphere-slot .ensures) (sphere-below _ _ (reflect .should-reflect .result) (fits .1) (index-small (reflect .before))), fits .0 .spheres)
 
 take-sphere-requires : tie.Need-take-sphere-requires
 take-sphere-requires c κs =
-    let source = c .before in
-    let slot = source .before in
+    let slot = c .before in
     let reflect = slot .before in
-    let fits = call-passed _ _ (start slot .pre) in
+    let begun = start slot .pre in
+    let fits = call-passed _ _ (begun .0) in
     let r = reflect .should-reflect .result in (
       sphere-there slot,
-      (
-        (rw (source .source-slot .ensures) (source-below _ r (index-small (reflect .before))), fits .0 .faces),
-        rw (c .get-origin .ensures) (angle-small _),
-      ),
+      ((rw (c .source-slot .ensures) (source-below _ r (index-small (reflect .before))), fits .0 .faces), begun .1),
     )
 
 take-cross-requires : tie.Need-take-cross-requires
 take-cross-requires c κs =
     let taken = c .before .before .before in
-    let source = taken .before .before in
+    let source = taken .before in
     sphere-there (source .before)
 
 returns : tie.Need-returns
 returns c =
     let taken = c .before .before .before in
-    let origin = taken .before in
-    let source = origin .before in
+    let source = taken .before in
     let slot = source .before in
     let reflect = slot .before .should-reflect in
     let index = slot .before .before .get-face-triangle-index in
-    let triangle = rw (origin .get-origin .ensures, slot .sphere-slot .ensures, source .source-slot .ensures) at (taken .take-sphere .ensures) in
+    let triangle = rw (slot .sphere-slot .ensures, source .source-slot .ensures) at (taken .take-sphere .ensures) in
     let refused = sym triangle ∙ ap givenTriangle (c .before .n .given .1) in
-    sym (used-refused ieee ORIGINS _ _ _ (index .result) (reflect .result) (index .ensures) (reflect .ensures) _ refused)
+    sym (used-refused ieee _ _ _ _ (index .result) (reflect .result) (index .ensures) (reflect .ensures) _ refused)
 
 returns-2 : tie.Need-returns-2
 returns-2 c =
     let matched = c .before in
     let taken = matched .before .before .before in
-    let origin = taken .before in
-    let source = origin .before in
+    let source = taken .before in
     let slot = source .before in
     let reflect = slot .before .should-reflect in
     let index = slot .before .before .get-face-triangle-index in
-    let triangle = rw (origin .get-origin .ensures, slot .sphere-slot .ensures, source .source-slot .ensures) at (taken .take-sphere .ensures) in
+    let triangle = rw (slot .sphere-slot .ensures, source .source-slot .ensures) at (taken .take-sphere .ensures) in
     let answered = sym triangle ∙ ap givenTriangle (matched .before .triangle .given .1) in
-    let used = used-answered ieee ORIGINS _ _ _ (index .result) (reflect .result) (index .ensures) (reflect .ensures) _ answered in
+    let used = used-answered ieee _ _ _ _ (index .result) (reflect .result) (index .ensures) (reflect .ensures) _ answered in
     rw (c .take-cross .ensures, slot .sphere-slot .ensures) (sym used)
 
 pub take-used-spec : {M : Type 1} → statement M
@@ -87,7 +80,6 @@ take-used-spec =
     (tie.spec
     (λ c κs. search needs)
     cast-index
-    (λ c κs. search needs)
     (λ c κs. search needs)
     (λ c κs. search needs)
     (λ c κs. search needs)

@@ -1,0 +1,3 @@
+-- Laws on numbers as bytes.
+pub mod Bytes
+pub mod Parts

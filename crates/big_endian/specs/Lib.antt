@@ -1,0 +1,2 @@
+-- Doubles as bytes. Definitions only.
+pub mod BigEndian

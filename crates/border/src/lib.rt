@@ -1,0 +1,1 @@
+// No code: this crate holds definitions (specs/) and laws about them (proofs/).

@@ -1,0 +1,2 @@
+-- The calls with a table as C functions. Definitions only.
+pub mod Tables

@@ -1,0 +1,245 @@
+// Forward, inverse, place and unplace on a set, with a table of origins in place of the built-in one: its
+// numbers are tested by 21 and 22 right after 1, 2 and 3. Open with a table is `set::open::open_with`.
+use answer::Check;
+use coordinates::conversions::FaceAnswer;
+use coordinates::conversions::LonLatAnswer;
+use coordinates::conversions::SphericalAnswer;
+use coordinates::conversions::check_face;
+use coordinates::conversions::check_lon_lat;
+use coordinates::conversions::check_spherical;
+use coordinates::coords::Face;
+use coordinates::lonlat::LonLat;
+use coordinates::spherical::Spherical;
+use dodecahedron::place::PlaceAnswer;
+use dodecahedron::projection::forward_core;
+use dodecahedron::projection::inverse_core;
+use dodecahedron::work::FaceWork;
+use dodecahedron::work::LonLatWork;
+use dodecahedron::work::PlaceWork;
+use dodecahedron::work::SphericalWork;
+use dodecahedron::work::finish_face;
+use dodecahedron::work::finish_lon_lat;
+use dodecahedron::work::finish_place;
+use dodecahedron::work::finish_spherical;
+use origin::origin::find_nearest_in;
+use origin::table::origin_in;
+use set::checks::check_origin;
+use set::checks::check_with;
+use set::checks::first_refusal;
+use stores::used::write_used;
+use transforms::coordinate_transforms::from_lon_lat;
+ghost use mathlib.Core.Path.{_≡_};
+ghost use Rattle.answer.specs.Given.{andThen};
+ghost use Rattle.answer.specs.Answer.{givenCheck};
+ghost use Rattle.arithmetic.specs.Arith.{ieee};
+ghost use Rattle.coordinates.specs.Conversions.{givenFace, givenSpherical, givenLonLat};
+ghost use Rattle.set.specs.Checks.{checkOrigin, checkWith};
+ghost use Rattle.set.specs.Outcome.{lent, Leaves};
+ghost use Rattle.dodecahedron.specs.Place.{givenPlace};
+ghost use Rattle.dodecahedron.specs.Work.{givenFaceWork, givenSphericalWork, givenPlaceWork, givenLonLatWork};
+ghost use Rattle.dodecahedron.specs.Calls.{forwardGiven, inverseGiven, placeGiven, unplaceGiven, forwardOn, inverseOn, placeOn, unplaceOn};
+
+// 1, 2, 3, 21, 22, 4.
+fn check_call_with(
+    table: &[f64; 84],
+    frame: &[f64],
+    face_store: &[f64],
+    sphere_store: &[f64],
+    origin: u8,
+) -> Check
+    ensures { λ r. ⌜ givenCheck r ≡ andThen (checkWith ieee (now (table .entry)) (lent frame «face_store» «sphere_store» .entry)) (checkOrigin origin) ⌝ }
+{
+    first_refusal(
+        check_with(table, frame, face_store, sphere_store),
+        check_origin(origin),
+    )
+}
+
+// What forward gives, with nothing written yet.
+fn forward_work_with(
+    table: &[f64; 84],
+    frame: &[f64],
+    face_store: &[f64],
+    sphere_store: &[f64],
+    spherical: Spherical,
+    origin: u8,
+) -> FaceWork
+    ensures { λ r. ⌜ givenFaceWork r ≡ forwardGiven ieee (now (table .entry)) (lent frame «face_store» «sphere_store» .entry) spherical origin ⌝ }
+{
+    let set = check_call_with(table, frame, face_store, sphere_store, origin);
+    let check = first_refusal(set, check_spherical(spherical));
+    if let Check::Refused(n) = check {
+        return FaceWork::Refused(n);
+    }
+    finish_face(forward_core(
+        frame,
+        face_store,
+        sphere_store,
+        spherical,
+        origin_in(table, origin),
+        origin,
+    ))
+}
+
+// A position on the sphere to a point on the face of a table's origin.
+pub fn forward_with(
+    table: [f64; 84],
+    frame: &[f64],
+    face_store: &mut [f64],
+    sphere_store: &mut [f64],
+    spherical: Spherical,
+    origin: u8,
+) -> FaceAnswer
+    ensures { λ r. ⌜ Leaves (lent frame «face_store» «sphere_store») (givenFace r) (λ s. forwardOn ieee table s spherical origin) ⌝ }
+{
+    match forward_work_with(&table, frame, face_store, sphere_store, spherical, origin) {
+        FaceWork::Refused(n) => FaceAnswer::Refused(n),
+        FaceWork::Done(done) => {
+            let answer = done.answer;
+            write_used(frame, face_store, sphere_store, done.used);
+            FaceAnswer::Answered(answer)
+        }
+    }
+}
+
+// What inverse gives, with nothing written yet.
+fn inverse_work_with(
+    table: &[f64; 84],
+    frame: &[f64],
+    face_store: &[f64],
+    sphere_store: &[f64],
+    face: Face,
+    origin: u8,
+) -> SphericalWork
+    ensures { λ r. ⌜ givenSphericalWork r ≡ inverseGiven ieee (now (table .entry)) (lent frame «face_store» «sphere_store» .entry) face origin ⌝ }
+{
+    let set = check_call_with(table, frame, face_store, sphere_store, origin);
+    let check = first_refusal(set, check_face(face));
+    if let Check::Refused(n) = check {
+        return SphericalWork::Refused(n);
+    }
+    finish_spherical(inverse_core(
+        frame,
+        face_store,
+        sphere_store,
+        face,
+        origin_in(table, origin),
+        origin,
+    ))
+}
+
+// A point on the face of a table's origin back to a position on the sphere.
+pub fn inverse_with(
+    table: [f64; 84],
+    frame: &[f64],
+    face_store: &mut [f64],
+    sphere_store: &mut [f64],
+    face: Face,
+    origin: u8,
+) -> SphericalAnswer
+    ensures { λ r. ⌜ Leaves (lent frame «face_store» «sphere_store») (givenSpherical r) (λ s. inverseOn ieee table s face origin) ⌝ }
+{
+    match inverse_work_with(&table, frame, face_store, sphere_store, face, origin) {
+        SphericalWork::Refused(n) => SphericalAnswer::Refused(n),
+        SphericalWork::Done(done) => {
+            let answer = done.answer;
+            write_used(frame, face_store, sphere_store, done.used);
+            SphericalAnswer::Answered(answer)
+        }
+    }
+}
+
+// What place gives, with nothing written yet.
+fn place_work_with(
+    table: &[f64; 84],
+    frame: &[f64],
+    face_store: &[f64],
+    sphere_store: &[f64],
+    lonlat: LonLat,
+) -> PlaceWork
+    ensures { λ r. ⌜ givenPlaceWork r ≡ placeGiven ieee (now (table .entry)) (lent frame «face_store» «sphere_store» .entry) lonlat ⌝ }
+{
+    let set = check_with(table, frame, face_store, sphere_store);
+    let check = first_refusal(set, check_lon_lat(lonlat));
+    if let Check::Refused(n) = check {
+        return PlaceWork::Refused(n);
+    }
+    let spherical = from_lon_lat(lonlat);
+    let origin = find_nearest_in(table, spherical);
+    let core = forward_core(
+        frame,
+        face_store,
+        sphere_store,
+        spherical,
+        origin_in(table, origin),
+        origin,
+    );
+    finish_place(origin, core)
+}
+
+// A longitude and a latitude to a point on the face of the table's nearest origin.
+pub fn place_with(
+    table: [f64; 84],
+    frame: &[f64],
+    face_store: &mut [f64],
+    sphere_store: &mut [f64],
+    lonlat: LonLat,
+) -> PlaceAnswer
+    ensures { λ r. ⌜ Leaves (lent frame «face_store» «sphere_store») (givenPlace r) (λ s. placeOn ieee table s lonlat) ⌝ }
+{
+    match place_work_with(&table, frame, face_store, sphere_store, lonlat) {
+        PlaceWork::Refused(n) => PlaceAnswer::Refused(n),
+        PlaceWork::Done(done) => {
+            let answer = done.answer;
+            write_used(frame, face_store, sphere_store, done.used);
+            PlaceAnswer::Answered(answer)
+        }
+    }
+}
+
+// What unplace gives, with nothing written yet.
+fn unplace_work_with(
+    table: &[f64; 84],
+    frame: &[f64],
+    face_store: &[f64],
+    sphere_store: &[f64],
+    face: Face,
+    origin: u8,
+) -> LonLatWork
+    ensures { λ r. ⌜ givenLonLatWork r ≡ unplaceGiven ieee (now (table .entry)) (lent frame «face_store» «sphere_store» .entry) face origin ⌝ }
+{
+    let set = check_call_with(table, frame, face_store, sphere_store, origin);
+    let check = first_refusal(set, check_face(face));
+    if let Check::Refused(n) = check {
+        return LonLatWork::Refused(n);
+    }
+    finish_lon_lat(inverse_core(
+        frame,
+        face_store,
+        sphere_store,
+        face,
+        origin_in(table, origin),
+        origin,
+    ))
+}
+
+// A point on the face of a table's origin back to a longitude and a latitude.
+pub fn unplace_with(
+    table: [f64; 84],
+    frame: &[f64],
+    face_store: &mut [f64],
+    sphere_store: &mut [f64],
+    face: Face,
+    origin: u8,
+) -> LonLatAnswer
+    ensures { λ r. ⌜ Leaves (lent frame «face_store» «sphere_store») (givenLonLat r) (λ s. unplaceOn ieee table s face origin) ⌝ }
+{
+    match unplace_work_with(&table, frame, face_store, sphere_store, face, origin) {
+        LonLatWork::Refused(n) => LonLatAnswer::Refused(n),
+        LonLatWork::Done(done) => {
+            let answer = done.answer;
+            write_used(frame, face_store, sphere_store, done.used);
+            LonLatAnswer::Answered(answer)
+        }
+    }
+}
