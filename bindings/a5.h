@@ -5,15 +5,16 @@
  *
  * A call that can be refused returns A5_ANSWERED (0), or the number of its refusal. a5_box_new, a5_window_new and
  * a5_window_counts are never refused and return nothing; a5_window_kept, a5_sqrt and a5_sqrt_rounds return their number.
- * An answer goes to the memory that is lent for it (to, id, filled, part, box, grants, window, counts, page, table, bytes). A refused
+ * An answer goes to the memory that is lent for it (to, id, results, filled, part, box, grants, window, counts, page, table, bytes). A refused
  * call leaves everything lent as it was, bit for bit. Any number may be passed: what is outside the limits is refused,
  * and every call ends.
  *
  * A set is three buffers of double that the caller owns: the frame, the face store and the sphere store. It is lent to
- * each call, each buffer as a pointer and how many numbers there are. a5_open makes it ready; forward, inverse, place
- * and unplace read it and fill slots of the stores, so that later calls are quicker. Their answers do not depend on
- * which calls came before, as long as nothing else writes to the set. The library keeps nothing between calls and
- * allocates nothing.
+ * each call, each buffer as a pointer and how many numbers there are. a5_open makes it ready; forward, inverse, place,
+ * unplace and a list of places read it and fill slots of the stores, so that later calls are quicker. Their answers do not depend on
+ * which calls came before, as long as nothing else writes to the set and each call has the table that the set was last
+ * opened with: the functions without a table have the built-in one, as a5_open has. The library keeps nothing between
+ * calls and allocates nothing.
  *
  * What the caller owes, since no function can check it:
  * - a pointer is not null, not even with length 0, and is aligned for what it points to;
@@ -79,13 +80,15 @@ enum a5_status {
     A5_REFUSED_NOT_FINITE = 5,          /* a number passed is infinite or NaN */
     A5_REFUSED_OUT_OF_RANGE = 6,        /* a number passed is outside its range */
     A5_REFUSED_FRAME_ROWS = 7,          /* open's frame hasn't 62 rows: never with the built-in table, as is proved */
-    A5_REFUSED_NO_VERTEX = 8,           /* a triangle that must be built has no frame vertex: not an opened set, or not such a table */
+    A5_REFUSED_NO_VERTEX = 8,           /* a triangle that must be built has no frame vertex: not an opened set, or a table whose triangles are not in the frame */
     A5_REFUSED_ANSWER_NOT_FINITE = 9,   /* the answer would have a number that isn't finite */
     A5_REFUSED_UNKNOWN_SLOT = 10,       /* no such slot: 30 or more (face), 240 or more (sphere) */
     /* These three are the strike program's. No function here returns them. */
     A5_REFUSED_HEADER = 11,      /* the input's header is missing, wrong or short */
     A5_REFUSED_RECORD_KIND = 12, /* a record's kind isn't 1 or 2, or kind 1 with a non-zero origin byte */
     A5_REFUSED_CUT_OFF = 13,     /* the input ends inside a record */
+    /* A list's. */
+    A5_REFUSED_RESULT_COUNT = 14, /* the lent results aren't as many as the positions */
     /* A window's. */
     A5_REFUSED_EARLIER_MINUTE = 17, /* the minute is earlier than the last accepted one */
     A5_REFUSED_WINDOW_FULL = 18,    /* 4,096 strikes remain after the drop */
@@ -127,6 +130,26 @@ uint8_t a5_place(const double *frame, size_t frame_length, double *face, size_t 
  * Refusals: 1 to 6, 8, 19, 9. */
 uint8_t a5_unplace(const double *frame, size_t frame_length, double *face, size_t face_length, double *sphere,
                    size_t sphere_length, double x, double y, uint8_t origin, double to[2]);
+
+/* A position, in degrees, and what place gives for it: refusal is the number of its refusal, 0 where it answered; origin,
+ * x and y are its answer, and 0, 0.0 and 0.0 where it refused. What stands in a result's padding means nothing. */
+typedef struct {
+    double longitude, latitude;
+} a5_position;
+
+typedef struct {
+    uint8_t refusal, origin;
+    double x, y;
+} a5_result;
+
+/* Place a list, with the built-in table, on a set that a5_open has opened: places the positions from first to last, as
+ * a5_place would one by one, and fills a result for each. A
+ * position that is refused (5, 6, 8, 9) has that in its result, and the next one follows. What stood in the results is not
+ * read. An empty list answers and changes nothing; its pointers are not null either. Refusals of the list itself, which
+ * leave every result and the set: 1, 2, 3, 14. */
+uint8_t a5_place_list(const double *frame, size_t frame_length, double *face, size_t face_length, double *sphere,
+                      size_t sphere_length, const a5_position *positions, size_t positions_length, a5_result *results,
+                      size_t results_length);
 
 /* Show: where the coordinates of a filled slot are, in the store that kind names: part[0] is the offset, in numbers,
  * and part[1] how many there are, 6 or 9. Both are 0 where the slot is empty. Only reads. Refusals: 2, 3, 10. */

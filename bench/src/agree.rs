@@ -2,7 +2,7 @@
 
 use crate::forms::{Form, Ours, Stepped};
 use crate::{FAR, TIMES};
-use a5_faces::Place;
+use a5_faces::{LonLat, Place, PlaceResult};
 use a5_stepped::coordinate_systems::Cartesian;
 use a5_stepped::projections::crs::CRS;
 
@@ -82,5 +82,17 @@ fn check_form(mut ours: Ours, degrees: &[[f64; 2]], radians: &[[f64; 2]]) {
         for x in [theta, theta + FAR] {
             same("sine", &[ours.sine(x)], &[rust.sine(x)]);
         }
+    }
+}
+
+// A list in one call, and one position after another.
+pub fn check_list(positions: &[LonLat]) {
+    let mut results = vec![PlaceResult::default(); positions.len()];
+    let mut theirs = results.clone();
+    Ours::new().place_list(positions, &mut results);
+    Stepped::new().place_each(positions, &mut theirs);
+    for (ours, rust) in results.iter().zip(&theirs) {
+        assert_eq!((ours.refusal, ours.origin), (0, rust.origin), "a list");
+        same("a list", &[ours.x, ours.y], &[rust.x, rust.y]);
     }
 }

@@ -1,6 +1,6 @@
 // The three that are compared: the proved library, and the given Rust in both forms.
 
-use a5_faces::{calls, Face, LonLat, Place, Set, Spherical, Table};
+use a5_faces::{calls, Face, LonLat, Place, PlaceResult, Set, Spherical, Table};
 use std::hint::black_box;
 
 // Each call answers: the driver hands out no argument that is refused.
@@ -11,6 +11,22 @@ pub trait Form {
     fn to_lon_lat(&mut self, theta: f64, phi: f64) -> [f64; 2];
     fn forward(&mut self, theta: f64, phi: f64, origin: u8) -> [f64; 2];
     fn place(&mut self, longitude: f64, latitude: f64) -> Place;
+    // Places one position after another.
+    fn place_each(&mut self, positions: &[LonLat], results: &mut [PlaceResult]) {
+        for (position, result) in positions.iter().zip(results) {
+            let place = self.place(position.longitude, position.latitude);
+            *result = PlaceResult {
+                refusal: 0,
+                origin: place.origin,
+                x: place.face.x,
+                y: place.face.y,
+            };
+        }
+    }
+    // Places them in one call, where the form has one.
+    fn place_list(&mut self, positions: &[LonLat], results: &mut [PlaceResult]) {
+        self.place_each(positions, results);
+    }
     fn unplace(&mut self, place: Place) -> [f64; 2];
     fn sine(&mut self, x: f64) -> f64;
     fn remainder(&mut self, x: f64, y: f64) -> f64;
@@ -95,6 +111,12 @@ impl Form for Ours {
                 latitude,
             })
             .expect("place")
+    }
+
+    fn place_list(&mut self, positions: &[LonLat], results: &mut [PlaceResult]) {
+        self.set
+            .place_list_into(positions, results)
+            .expect("place_list");
     }
 
     fn unplace(&mut self, place: Place) -> [f64; 2] {

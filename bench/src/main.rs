@@ -6,7 +6,7 @@ mod forms;
 #[path = "../../oracle/common/generator.rs"]
 mod generator;
 
-use a5_faces::Place;
+use a5_faces::{LonLat, Place, PlaceResult};
 use forms::{Form, Ours, Plain, Stepped};
 use generator::Generator;
 use std::hint::black_box;
@@ -16,18 +16,22 @@ use std::time::Instant;
 const POINTS: usize = 5000;
 const A_RUN: usize = 250;
 const RUNS: usize = 401;
+// So many positions in a list.
+pub const LIST: usize = 300;
 // the library, without a table and with the built-in rows as a table, and the Rust in both forms
 const FORMS: usize = 4;
 // the calls that take a table
 const WITH: [&str; 5] = ["open", "nearest", "forward", "place", "unplace"];
 
-const CALLS: [&str; 12] = [
+const CALLS: [&str; 14] = [
     "open",
     "nearest",
     "from_lon_lat",
     "to_lon_lat",
     "forward",
     "place",
+    "list",
+    "list singly",
     "unplace",
     "sine",
     "sine far",
@@ -85,9 +89,19 @@ fn time<P: Copy, A>(points: &[P], mut call: impl FnMut(P) -> A) -> f64 {
     start.elapsed().as_nanos() as f64 / points.len() as f64
 }
 
+// Nanoseconds for each position of a list.
+fn time_list(positions: &[LonLat], call: impl FnOnce(&[LonLat], &mut [PlaceResult])) -> f64 {
+    let mut results = [PlaceResult::default(); LIST];
+    let start = Instant::now();
+    call(black_box(positions), black_box(&mut results));
+    black_box(&results);
+    start.elapsed().as_nanos() as f64 / LIST as f64
+}
+
 // The same points in each call's own terms.
 struct Points {
     degrees: Vec<[f64; 2]>,
+    positions: Vec<LonLat>,
     radians: Vec<[f64; 2]>,
     // with the nearest origin
     forwards: Vec<([f64; 2], u8)>,
@@ -100,6 +114,7 @@ fn run(form: &mut impl Form, points: &Points, at: usize) -> [f64; CALLS.len()] {
     let radians = &points.radians[at..at + A_RUN];
     let forwards = &points.forwards[at..at + A_RUN];
     let places = &points.places[at..at + A_RUN];
+    let list = &points.positions[at.min(POINTS - LIST)..][..LIST];
     [
         time(&[()], |()| form.open()),
         time(radians, |p| form.nearest(p[0], p[1])),
@@ -107,6 +122,8 @@ fn run(form: &mut impl Form, points: &Points, at: usize) -> [f64; CALLS.len()] {
         time(radians, |p| form.to_lon_lat(p[0], p[1])),
         time(forwards, |(p, id)| form.forward(p[0], p[1], id)),
         time(degrees, |p| form.place(p[0], p[1])),
+        time_list(list, |p, r| form.place_list(p, r)),
+        time_list(list, |p, r| form.place_each(p, r)),
         time(places, |p| form.unplace(p)),
         time(radians, |p| form.sine(p[0])),
         time(radians, |p| form.sine(p[0] + FAR)),
@@ -159,9 +176,15 @@ fn in_all_terms(degrees: Vec<[f64; 2]>) -> Points {
         .collect();
     let places: Vec<Place> = degrees.iter().map(|p| library.place(p[0], p[1])).collect();
     let ids = places.iter().map(|place| place.origin);
+    let position = |p: &[f64; 2]| LonLat {
+        longitude: p[0],
+        latitude: p[1],
+    };
+    let positions = degrees.iter().map(position).collect();
     Points {
         forwards: radians.iter().copied().zip(ids).collect(),
         degrees,
+        positions,
         radians,
         places,
     }
@@ -170,6 +193,7 @@ fn in_all_terms(degrees: Vec<[f64; 2]>) -> Points {
 fn main() {
     let points = in_all_terms(points());
     agree::check(&points.degrees, &points.radians);
+    agree::check_list(&points.positions[..LIST]);
     let times = interleaved(&points);
     println!("ns a call: medians of {RUNS} interleaved runs");
     println!("call             ours  stepped    plain  ours/stepped  ours/plain    with  with/ours  with/plain");

@@ -8,7 +8,7 @@
 // Each is inlined, so that a caller has the library's own call and nothing beside it.
 
 use crate::raw;
-use crate::{Face, LonLat, Place, Refusal, Spherical, Store};
+use crate::{Face, LonLat, Place, PlaceResult, Refusal, Spherical, Store};
 
 // 0 is an answer. The library is proved to return a number of the table otherwise.
 #[inline]
@@ -129,6 +129,33 @@ pub fn place(
         origin,
         face: Face { x, y },
     })
+}
+
+/// Places the positions from first to last, and fills a result for each: a refused one has that in its result, and the next
+/// one follows. Another number of results is refused, and then none is written.
+#[inline]
+pub fn place_list(
+    frame: &[f64],
+    face: &mut [f64],
+    sphere: &mut [f64],
+    positions: &[LonLat],
+    results: &mut [PlaceResult],
+) -> Result<(), Refusal> {
+    let status = unsafe {
+        raw::a5_place_list(
+            frame.as_ptr(),
+            frame.len(),
+            face.as_mut_ptr(),
+            face.len(),
+            sphere.as_mut_ptr(),
+            sphere.len(),
+            positions.as_ptr().cast(),
+            positions.len(),
+            results.as_mut_ptr().cast(),
+            results.len(),
+        )
+    };
+    given(status, ())
 }
 
 /// The longitude and latitude of a point on the face of an origin.

@@ -1,6 +1,7 @@
 //! Twelve faces for regional maps: a safe interface to the proved library.
 //!
-//! A [`Set`] owns its buffers and is open from the start; its methods are the calls on it. [`calls`] has the same calls
+//! A [`Set`] owns its buffers and is open from the start; its methods are the calls on it, and
+//! [`place_list`](Set::place_list) places many positions in one. [`calls`] has the same calls
 //! on slices that the caller keeps elsewhere. Every call is total: it answers, or it is refused with a [`Refusal`] and
 //! changes nothing. Angles of [`LonLat`] are degrees, those of [`Spherical`] are radians. A [`CaptionBox`] grows round
 //! the points of one face, and a [`Window`] keeps the last 180 minutes of strikes. A [`Table`] holds other origins, for a
@@ -23,7 +24,7 @@ mod turns;
 mod window;
 
 pub use caption::{CaptionBox, Sides};
-pub use points::{Face, LonLat, Place, Spherical, Store};
+pub use points::{Face, LonLat, Place, PlaceResult, Spherical, Store};
 pub use refusal::Refusal;
 pub use root::{sqrt, sqrt_rounds};
 pub use set::Set;

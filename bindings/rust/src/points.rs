@@ -1,7 +1,11 @@
 // What goes into a call and comes out.
 
+use crate::Refusal;
+
 /// Longitude (−360 to 360) and latitude (−90 to 90), in degrees.
 #[derive(Clone, Copy, Debug, PartialEq)]
+// as the library reads it in a list
+#[repr(C)]
 pub struct LonLat {
     pub longitude: f64,
     pub latitude: f64,
@@ -26,6 +30,44 @@ pub struct Face {
 pub struct Place {
     pub origin: u8,
     pub face: Face,
+}
+
+/// What place gives for one position of a list, as the library writes it: the number of its refusal, 0 where it answered,
+/// and origin, x and y, which are 0 where it refused. [`PlaceResult::given`] is the same as `place` gives it.
+#[derive(Clone, Copy, Debug, Default, PartialEq)]
+#[repr(C)]
+pub struct PlaceResult {
+    pub refusal: u8,
+    pub origin: u8,
+    pub x: f64,
+    pub y: f64,
+}
+
+impl PlaceResult {
+    /// The place, or the refusal. It panics on a number that no refusal has, which no list gives.
+    #[inline]
+    pub fn given(self) -> Result<Place, Refusal> {
+        let PlaceResult { origin, x, y, .. } = self;
+        let face = Face { x, y };
+        crate::calls::given(self.refusal, Place { origin, face })
+    }
+
+    /// A place, or a refusal, as a result.
+    #[inline]
+    pub fn of(given: Result<Place, Refusal>) -> PlaceResult {
+        match given {
+            Ok(Place { origin, face }) => PlaceResult {
+                refusal: 0,
+                origin,
+                x: face.x,
+                y: face.y,
+            },
+            Err(refusal) => PlaceResult {
+                refusal: refusal.number(),
+                ..PlaceResult::default()
+            },
+        }
+    }
 }
 
 /// The store that show looks at.

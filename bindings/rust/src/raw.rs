@@ -1,5 +1,5 @@
 // The library's functions as they are linked; bindings/a5.h says what each does. A slice is a pointer and how many
-// numbers there are. oracle/compare includes this file: it looks at what a refusal leaves where an answer would stand,
+// numbers there are; a position in a list is two numbers. oracle/compare includes this file: it looks at what a refusal leaves where an answer would stand,
 // which the safe functions do not show.
 
 // The calls on a set take two numbers, and then an origin or, of place, where to write one.
@@ -68,6 +68,18 @@ extern "C" {
         sphere: *mut f64,
         sphere_length: usize,
     ) -> u8;
+    pub fn a5_place_list(
+        frame: *const f64,
+        frame_length: usize,
+        face: *mut f64,
+        face_length: usize,
+        sphere: *mut f64,
+        sphere_length: usize,
+        positions: *const [f64; 2],
+        positions_length: usize,
+        results: *mut Placed,
+        results_length: usize,
+    ) -> u8;
     pub fn a5_open_with(
         table: *const f64,
         table_length: usize,
@@ -123,6 +135,16 @@ extern "C" {
     pub fn a5_window_counts(window: *const Window, counts: *mut [u32; 12]);
     pub fn a5_window_kept(window: *const Window) -> u32;
     pub fn a5_sheet(window: *const Window, page: *mut u8, n: usize) -> u8;
+}
+
+// a5_result.
+#[derive(Clone, Copy)]
+#[repr(C)]
+pub struct Placed {
+    pub refusal: u8,
+    pub origin: u8,
+    pub x: f64,
+    pub y: f64,
 }
 
 // a5_box.

@@ -18,7 +18,8 @@ pub enum Refusal {
     OutOfRange = 6,
     /// Open's frame hasn't 62 rows: never with the built-in table, as is proved.
     FrameRows = 7,
-    /// A triangle that must be built has no vertex in the frame: the set was not opened, or not with such a table.
+    /// A triangle that must be built has no vertex in the frame: the set was not opened, or its table has triangles that are not
+    /// in its frame.
     NoVertex = 8,
     /// The answer would have a number that isn't finite.
     AnswerNotFinite = 9,
@@ -30,6 +31,8 @@ pub enum Refusal {
     RecordKind = 12,
     /// The strike program's: the input ends inside a record.
     CutOff = 13,
+    /// A list's: the lent results aren't as many as the positions.
+    ResultCount = 14,
     /// A window's: the minute is earlier than the last accepted one.
     EarlierMinute = 17,
     /// A window's: 4,096 strikes remain after the drop.
@@ -53,7 +56,7 @@ pub enum Refusal {
 
 impl Refusal {
     /// Every refusal, in the table's order.
-    pub const ALL: [Refusal; 22] = [
+    pub const ALL: [Refusal; 23] = [
         Refusal::FrameLength,
         Refusal::FaceStoreLength,
         Refusal::SphereStoreLength,
@@ -67,6 +70,7 @@ impl Refusal {
         Refusal::Header,
         Refusal::RecordKind,
         Refusal::CutOff,
+        Refusal::ResultCount,
         Refusal::EarlierMinute,
         Refusal::WindowFull,
         Refusal::AngleOutside,

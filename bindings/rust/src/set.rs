@@ -1,7 +1,7 @@
 // A set that owns its buffers.
 
 use crate::calls;
-use crate::{Face, LonLat, Place, Refusal, Spherical, Store, Table};
+use crate::{Face, LonLat, Place, PlaceResult, Refusal, Spherical, Store, Table};
 
 /// The frame, the face store and the sphere store, open from the start. The calls fill slots of the stores, which makes
 /// later calls quicker; an answer never depends on the calls before it. A call takes the set as `&mut`, so that no two
@@ -99,6 +99,36 @@ impl Set {
             None => calls::place(frame, face, sphere, position),
             Some(t) => calls::place_with(t.numbers(), frame, face, sphere, position),
         }
+    }
+
+    /// Places the positions from first to last, as [`place`](Set::place) would one by one: what it gives for each.
+    pub fn place_list(&mut self, positions: &[LonLat]) -> Vec<Result<Place, Refusal>> {
+        let mut results = vec![PlaceResult::default(); positions.len()];
+        self.place_list_into(positions, &mut results)
+            .expect("a set's own buffers, and a result for each position");
+        results.into_iter().map(PlaceResult::given).collect()
+    }
+
+    /// The same, to results that the caller keeps, and with nothing allocated. Another number of results than of positions is
+    /// refused, and then none is written.
+    #[inline]
+    pub fn place_list_into(
+        &mut self,
+        positions: &[LonLat],
+        results: &mut [PlaceResult],
+    ) -> Result<(), Refusal> {
+        if self.table.is_none() {
+            let (frame, face, sphere) = (&self.frame, &mut self.face, &mut self.sphere);
+            return calls::place_list(frame, face, sphere, positions, results);
+        }
+        // with a table the positions are placed singly, which is what a list is
+        if positions.len() != results.len() {
+            return Err(Refusal::ResultCount);
+        }
+        for (position, result) in positions.iter().zip(results) {
+            *result = PlaceResult::of(self.place(*position));
+        }
+        Ok(())
     }
 
     /// The longitude and latitude of a point on the face of an origin.

@@ -34,7 +34,9 @@ numberOf refusal.Header = 11
 numberOf refusal.RecordKind = 12
 -- "program: input ends inside a record"
 numberOf refusal.CutOff = 13
--- document 02's, by their papers. Paper 5: "the minute is earlier than the last accepted one"
+-- document 02's, by their papers. Paper 1: "the two slices differ in length"
+numberOf refusal.ResultCount = 14
+-- Paper 5: "the minute is earlier than the last accepted one"
 numberOf refusal.EarlierMinute = 17
 -- Paper 5: "4,096 strikes remain after the drop"
 numberOf refusal.WindowFull = 18

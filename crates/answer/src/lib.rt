@@ -33,6 +33,8 @@ pub enum Refusal {
     RecordKind,
     // 13: strike program: the input ends inside a record
     CutOff,
+    // 14: lists: the lent results aren't as many as the positions (Paper 1)
+    ResultCount,
     // 17: window: the minute is earlier than the last accepted one (Paper 5)
     EarlierMinute,
     // 18: window: 4,096 strikes remain after the drop (Paper 5)
@@ -71,6 +73,7 @@ pub fn number(r: Refusal) -> u8
         Refusal::Header => 11,
         Refusal::RecordKind => 12,
         Refusal::CutOff => 13,
+        Refusal::ResultCount => 14,
         Refusal::EarlierMinute => 17,
         Refusal::WindowFull => 18,
         Refusal::AngleOutside => 19,

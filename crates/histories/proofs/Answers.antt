@@ -36,11 +36,10 @@ use Rattle.stores.specs.declared.used.Used.{Used}
 use Rattle.triangles.specs.Triangles.{crossTaken}
 use Rattle.triangles.specs.Taken.{faceFor, usedFor}
 use Rattle.dodecahedron.specs.Place.{finitePlace}
-use Rattle.dodecahedron.specs.Work.{Work, answerOf, finish}
+use Rattle.dodecahedron.specs.Work.{Work, finish}
 use Rattle.dodecahedron.specs.Projection.{frameConstants, polarAbout, forwardCore, inverseCore}
 use Rattle.dodecahedron.specs.Calls.{forwardGiven, inverseGiven, placeGiven, unplaceGiven}
 use Rattle.dodecahedron.proofs.Ended.{testsOn, forward-is, inverse-is, place-is, unplace-is}
-use Rattle.histories.specs.EveryList.{SameAnswers}
 use Rattle.histories.proofs.Told.{Since}
 use Rattle.histories.specs.Defined.{sphereDefined}
 use Rattle.histories.proofs.Taken.{Good, face-taken, sphere-taken, cross-taken}
@@ -55,7 +54,7 @@ module _ (table : List Float) (w v : Since) (s n : Set) (good : Good table w s) 
   same-frame : s .frame ≡ n .frame
   same-frame = good .frame ∙ good .rows ∙ sym (also .frame ∙ also .rows)
 
-  same-checks : checkSet s ≡ checkSet n
+  pub same-checks : checkSet s ≡ checkSet n
   unfolding checkSet
   same-checks =
       let faces = good .face-long ∙ sym (also .face-long) in
@@ -163,12 +162,3 @@ module _ (table : List Float) (w v : Since) (s n : Set) (good : Good table w s) 
       place-is ieee table s p q o refl refl
       ∙ then-same _ _ _ _ checks (λ e. ap (λ (g : Given (Work Face)). finish g (finitePlace o)) core)
       ∙ sym (place-is ieee table n p q o refl refl)
-
-  pub same-answers : SameAnswers table s n
-  same-answers =
-      record {
-        forward = λ p o. ap answerOf (forward-same p o);
-        inverse = λ f o. ap answerOf (inverse-same f o);
-        place = λ p. ap answerOf (place-same p);
-        unplace = λ f o. ap answerOf (unplace-same f o);
-      }

@@ -5,13 +5,16 @@ use mathlib.Core.List.{List, [], _∷_}
 use lib.Ieee.{Float}
 use Rattle.answer.specs.Given.{Given, answered, refused, passed}
 use Rattle.arithmetic.specs.Arith.{ieee}
+use Rattle.coordinates.specs.declared.lonlat.LonLat.{LonLat}
 use Rattle.origin.specs.Origins.{ORIGINS}
+use Rattle.place_list.specs.Lists.{placedInTurn}
 use Rattle.set.specs.Set.{Set}
 use Rattle.set.specs.Open.{openGiven}
-use Rattle.histories.specs.Lists.{Standing, Call, opens, forwards, inverses, places, unplaces, shows, asks, tableOpened, step, run}
+use Rattle.histories.specs.Lists.{Standing, Call, opens, forwards, inverses, places, unplaces, lists, shows, asks, tableOpened, step, run}
 use Rattle.histories.specs.EveryList.{SameAnswers, opened, left}
 use Rattle.histories.specs.BuiltIn.{BuiltIn, AllBuiltIn, Demand3BuiltIn}
-use Rattle.histories.proofs.Theorem.{every-list}
+use Rattle.histories.specs.Results.{each}
+use Rattle.histories.proofs.Theorem.{every-list, results-alone}
 
 pub table-kept : (s : Standing) (c : Call) → s .table ≡ ORIGINS → BuiltIn c → step s c .table ≡ ORIGINS
 table-kept s (opens t) e is = by (openGiven ieee t (s .set))
@@ -23,6 +26,7 @@ table-kept s (forwards p o) e is = e
 table-kept s (inverses f o) e is = e
 table-kept s (places p) e is = e
 table-kept s (unplaces f o) e is = e
+table-kept s (lists ps results) e is = e
 table-kept s (shows kind k) e is = e
 table-kept s (asks kind k) e is = e
 
@@ -47,6 +51,14 @@ pub answers-built-in : (b : Set) → openGiven ieee ORIGINS b ≡ passed → (cs
 answers-built-in b ready cs is n h =
     let Claim : List Float → Type 0 = λ t. openGiven ieee t n ≡ passed → SameAnswers t (left ORIGINS b cs .set) (opened t n .set) in
     subst Claim is (every-list ORIGINS b ready cs .answers n) h
+
+pub results-built-in : (b : Set) → openGiven ieee ORIGINS b ≡ passed → (cs : List Call) → left ORIGINS b cs .table ≡ ORIGINS → (n : Set)
+    → openGiven ieee ORIGINS n ≡ passed → (ps : List LonLat)
+    → placedInTurn ieee ORIGINS (left ORIGINS b cs .set) ps .results ≡ each ORIGINS (opened ORIGINS n .set) ps
+results-built-in b ready cs is n h ps =
+    let Claim : List Float → Type 0 =
+    λ t. openGiven ieee t n ≡ passed → placedInTurn ieee t (left ORIGINS b cs .set) ps .results ≡ each t (opened t n .set) ps in
+    subst Claim is (λ e. results-alone ORIGINS b ready cs n e ps) h
 
 pub every-built-in : Demand3BuiltIn
 every-built-in b ready cs all =

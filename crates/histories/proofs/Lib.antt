@@ -14,4 +14,5 @@ pub mod Counts
 pub mod Consequences
 pub mod SineArguments
 pub mod BuiltIn
-pub mod Alone
+pub mod Left
+pub mod PlaceLists

@@ -65,7 +65,7 @@ module _ (table : List Float) (w : Since) (s : Set) (good : Good table w s) wher
       )
 
   -- one projection's slots
-  used-good : (u : Used) → UsedOn table s u → Good table (counted w (uses (answered (u ∷ []))) (standing table s)) (usedWritten ieee s u)
+  pub used-good : (u : Used) → UsedOn table s u → Good table (counted w (uses (answered (u ∷ []))) (standing table s)) (usedWritten ieee s u)
   unfolding sphereWritten
   used-good u on =
       let k = sphereSlot (u .origin) (u .index) (u .reflected) in

@@ -21,11 +21,12 @@ use Rattle.stores.specs.Slots.{filled, sphereRun}
 use Rattle.histories.specs.Lists.{standing, Call}
 use Rattle.histories.specs.Defined.{slotAt, sphereDefined}
 use Rattle.histories.specs.EveryList.{opened, left, lastOpen, Demand3}
+use Rattle.histories.specs.Results.{ResultsAlone}
 use Rattle.histories.proofs.Runs.{length-run}
 use Rattle.histories.proofs.Told.{Since, newly, sinceOpen, frame-opened, table-opened}
 use Rattle.histories.proofs.Stores.{slotOf, slot-filled}
 use Rattle.histories.proofs.Taken.{Good, fresh, fresh-good, faceCoordinates, runOf, sphereCoordinates}
-use Rattle.histories.proofs.Answers.{same-answers}
+use Rattle.histories.proofs.PlaceLists.{in-turn-each, same-answers}
 use Rattle.histories.proofs.Steps.{run-good}
 use Rattle.histories.proofs.Outside.{untouched}
 use Rattle.histories.proofs.UsedLast.{face-used-last, sphere-used-last}
@@ -115,3 +116,6 @@ every-list t b ready cs =
       outside = untouched;
       shown = λ s kind k. (refl, refl);
     }
+
+pub results-alone : ResultsAlone
+results-alone t b ready cs n h ps = in-turn-each (left t b cs .table) _ _ (fresh-answers t b cs n h) ps _ _ (good-left t b ready cs)

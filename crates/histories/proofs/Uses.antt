@@ -4,6 +4,7 @@ use mathlib.Core.Path.{_≡_, refl, sym, ap, subst, _∙_}
 use mathlib.Core.List.{List, [], _∷_}
 use Prim.Native.Nat.{ℕ, _<_}
 use lib.Ieee.{Float}
+use lib.ListN.{length}
 use Rattle.answer.specs.Given.{Given, answered, refused, passed, andThen}
 use Rattle.answer.proofs.Given.{refused-answers-nothing, then-answered, bind-answered}
 use Rattle.arithmetic.specs.Arith.{ieee}
@@ -27,10 +28,13 @@ use Rattle.triangles.specs.Triangles.{sphereTaken, crossTaken}
 use Rattle.triangles.specs.Taken.{usedFor}
 use Rattle.triangles.proofs.Within.{answered-same}
 use Rattle.dodecahedron.specs.Place.{finitePlace}
-use Rattle.dodecahedron.specs.Work.{Work, usedOf, finish}
+use Rattle.dodecahedron.specs.Work.{Work, usedOf, setUsed, finish}
+use Rattle.dodecahedron.specs.Calls.{placeGiven}
+use Rattle.place_list.specs.Lists.{checkList}
+use Rattle.place_list.specs.Uses.{counted, usedInTurn, usedByList}
 use Rattle.dodecahedron.proofs.Worked.{forward-used, inverse-used}
 use Rattle.dodecahedron.proofs.Ended.{testsOn, forward-is, inverse-is, place-is, unplace-is}
-use Rattle.histories.specs.Lists.{Standing, standing, Call, opens, forwards, inverses, places, unplaces, shows, asks, Effect, writes, uses, reads, alone, effect}
+use Rattle.histories.specs.Lists.{Standing, standing, Call, opens, forwards, inverses, places, unplaces, lists, shows, asks, Effect, writes, uses, reads, alone, effect}
 
 pub record UsedOn (table : List Float) (s : Set) (u : Used) : Type 0 where
   pub fits : Fits s
@@ -112,6 +116,32 @@ module _ (table : List Float) (s : Set) (o : ℕ) where
 
 -- ---- each call
 
+pub place-fits : (table : List Float) (s : Set) (p : LonLat) → EffectOn (standing table s) (uses (alone (usedOf (placeGiven ieee table s p))))
+place-fits table s p =
+    let q = fromLonLat ieee p in
+    let o = nearestOrigin ieee table q in
+    let known = nearest-told table s o (checkLonLat p) (nearest-is ieee table q .origin) in
+    call-fits table s o _ _ _ (finitePlace o) _ (place-is ieee table s p q o refl refl) known (forward-used ieee (originAt table o) s o q)
+
+-- what one place uses, on the set that it is made on
+pub place-on : (table : List Float) (s : Set) (p : LonLat) (u : Used) → usedOf (placeGiven ieee table s p) ≡ answered u → UsedOn table s u
+place-on table s p u e = place-fits table s p (u ∷ []) (ap alone e) .0
+
+-- and so each of a list
+in-turn-fits : (table : List Float) (ps : List LonLat) (s : Set) → UsedAll table s (usedInTurn ieee table s ps)
+in-turn-fits table [] s = tt
+in-turn-fits table (p ∷ ps) s = go (usedOf (placeGiven ieee table s p)) refl (in-turn-fits table ps)
+  where
+    go : (g : Given Used) → usedOf (placeGiven ieee table s p) ≡ g → ((t : Set) → UsedAll table t (usedInTurn ieee table t ps))
+        → UsedAll table s (counted g (usedInTurn ieee table (setUsed ieee s g) ps))
+    go (refused n) e rest = rest s
+    go (answered u) e rest = (place-on table s p u e, rest (usedWritten ieee s u))
+
+list-fits : (s : Standing) (ps : List LonLat) (results : ℕ) → EffectOn s (uses (usedByList ieee (s .table) (s .set) ps results))
+list-fits s ps results us e =
+    let passes = then-answered (checkList ieee (s .table) (s .set) (length ps) results) _ us e in
+    subst (UsedAll (s .table) (s .set)) (answered-same (passes .1)) (in-turn-fits (s .table) ps (s .set))
+
 pub effect-fits : (s : Standing) (c : Call) → EffectOn s (effect s c)
 effect-fits s (opens t) = tt
 effect-fits s (forwards p o) =
@@ -122,16 +152,12 @@ effect-fits s (inverses f o) =
     let origin = originAt (s .table) o in
     call-fits (s .table) (s .set) o _ _ _ finiteSpherical _ (inverse-is ieee (s .table) (s .set) f o)
     (origin-told (s .table) (s .set) o (checkFace f)) (inverse-used ieee origin (s .set) o f)
-effect-fits s (places p) =
-    let q = fromLonLat ieee p in
-    let o = nearestOrigin ieee (s .table) q in
-    let known = nearest-told (s .table) (s .set) o (checkLonLat p) (nearest-is ieee (s .table) q .origin) in
-    call-fits (s .table) (s .set) o _ _ _ (finitePlace o) _ (place-is ieee (s .table) (s .set) p q o refl refl) known
-    (forward-used ieee (originAt (s .table) o) (s .set) o q)
+effect-fits s (places p) = place-fits (s .table) (s .set) p
 effect-fits s (unplaces f o) =
     let ends : Spherical → Given LonLat = λ q. finiteLonLat (toLonLat ieee q) in
     let origin = originAt (s .table) o in
     call-fits (s .table) (s .set) o _ _ _ ends _ (unplace-is ieee (s .table) (s .set) f o)
     (origin-told (s .table) (s .set) o (checkFace f)) (inverse-used ieee origin (s .set) o f)
+effect-fits s (lists ps results) = list-fits s ps results
 effect-fits s (shows kind k) = tt
 effect-fits s (asks kind k) = tt

@@ -20,6 +20,8 @@ use Rattle.set.specs.Open.{openGiven}
 use Rattle.set.specs.Sizes.{FACE-SLOTS, FACE-WIDTH, FACE-STORE, SPHERE-SLOTS, SPHERE-WIDTH, SPHERE-STORE}
 use Rattle.stores.specs.Slots.{filled, faceRun, sphereRun}
 use Rattle.dodecahedron.specs.Calls.{forwardOn, inverseOn, placeOn, unplaceOn}
+use Rattle.place_list.specs.Lists.{placeListOn}
+use Rattle.place_list.specs.declared.PlaceResult.{PlaceResult}
 use Rattle.show.specs.declared.StoreKind.{StoreKind}
 use Rattle.histories.specs.Lists.{Standing, standing, Call, opens, shows, asks, Effect, effect, after, step, run}
 use Rattle.histories.specs.Since.{facesUsed, spheresUsed, UsedLast, lastOpened}
@@ -31,6 +33,10 @@ pub record SameAnswers (table : List Float) (s n : Set) : Type 0 where
   pub inverse : (f : Face) (o : ℕ) → inverseOn ieee table s f o .answer ≡ inverseOn ieee table n f o .answer
   pub place : (p : LonLat) → placeOn ieee table s p .answer ≡ placeOn ieee table n p .answer
   pub unplace : (f : Face) (o : ℕ) → unplaceOn ieee table s f o .answer ≡ unplaceOn ieee table n f o .answer
+  -- Paper 1: "the wish for years of unchanged answers extends to such calls": a list's answer, and every result
+  pub place-list : (ps : List LonLat) (rs : List PlaceResult)
+      → (placeListOn ieee table s ps rs .answer ≡ placeListOn ieee table n ps rs .answer)
+      × (placeListOn ieee table s ps rs .left .results ≡ placeListOn ieee table n ps rs .left .results)
 
 -- What a call does to the set s changes no number outside the slots that it uses; place i of a store lies in slot i / width.
 pub record Untouched (s : Standing) (e : Effect) : Type 0 where

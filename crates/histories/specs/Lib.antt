@@ -4,5 +4,6 @@ pub mod Since
 pub mod Defined
 pub mod EveryList
 pub mod BuiltIn
+pub mod Results
 pub mod Consequences
 pub mod SineArguments

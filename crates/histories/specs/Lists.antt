@@ -1,7 +1,7 @@
 -- Lists of calls on one set: "each call is lent that set (show its two stores) as the call before left it, and nothing else writes
 -- it". Paper 10: "in a list and after it every call that takes a table, open excepted, takes that of the last open that answered, the
 -- one the list starts from included. An open may bring another." What a call leaves is said in the definitions that the contracts of
--- open, forward, inverse, place and unplace cite, and in no others. Definitions only.
+-- open, forward, inverse, place, unplace and place_list cite, and in no others (`proofs/Left`). Definitions only.
 use Prim.Native.Nat.{ℕ}
 use mathlib.Core.List.{List, [], _∷_}
 use lib.Ieee.{Float}
@@ -14,6 +14,7 @@ use Rattle.set.specs.Set.{Set}
 use Rattle.set.specs.Open.{openGiven, setOpened}
 use Rattle.dodecahedron.specs.Work.{usedOf}
 use Rattle.dodecahedron.specs.Calls.{forwardGiven, inverseGiven, placeGiven, unplaceGiven}
+use Rattle.place_list.specs.Uses.{usedByList}
 use Rattle.stores.specs.Used.{allWritten}
 use Rattle.stores.specs.declared.used.Used.{Used}
 use Rattle.show.specs.declared.StoreKind.{StoreKind}
@@ -33,6 +34,8 @@ pub data Call : Type 0 where
   inverses : Face → ℕ → Call
   places : LonLat → Call
   unplaces : Face → ℕ → Call
+  -- place_list, lent so many results
+  lists : List LonLat → ℕ → Call
   shows : StoreKind → ℕ → Call
   -- show's companion
   asks : StoreKind → ℕ → Call
@@ -57,6 +60,7 @@ effect s (forwards p o) = uses (alone (usedOf (forwardGiven ieee (s .table) (s .
 effect s (inverses f o) = uses (alone (usedOf (inverseGiven ieee (s .table) (s .set) f o)))
 effect s (places p) = uses (alone (usedOf (placeGiven ieee (s .table) (s .set) p)))
 effect s (unplaces f o) = uses (alone (usedOf (unplaceGiven ieee (s .table) (s .set) f o)))
+effect s (lists ps results) = uses (usedByList ieee (s .table) (s .set) ps results)
 effect s (shows kind k) = reads
 effect s (asks kind k) = reads
 

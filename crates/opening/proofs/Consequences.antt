@@ -18,7 +18,7 @@ use Rattle.histories.specs.EveryList.{opened, left}
 use Rattle.histories.specs.BuiltIn.{AllBuiltIn}
 use Rattle.histories.proofs.BuiltIn.{table-kept, table-left}
 use Rattle.opening.specs.Opening.{RightLengths, RefusedWith, InForce, Without8}
-use Rattle.opening.specs.Refusals.{among, INVERSE-REFUSALS, NoneRefused}
+use Rattle.opening.specs.Refusals.{among, CALL-REFUSALS, NoneRefused}
 use Rattle.opening.proofs.Lists.{run-then}
 use Rattle.opening.proofs.Theorem.{open-answers, lengths-after, call-left, never-8}
 
@@ -61,7 +61,7 @@ open-answers-after b l cs is = open-answers (left ORIGINS b cs .set) (lengths-af
 -- ---- along a list
 
 -- no call of a list, open included, gives a number that is not left
-module _ (b : Set) (l : RightLengths b) (n : ℕ) (gone : among n INVERSE-REFUSALS ≡ false) where
+module _ (b : Set) (l : RightLengths b) (n : ℕ) (gone : among n CALL-REFUSALS ≡ false) where
   none-from : (before after : List Call) (s : Standing) → left ORIGINS b before ≡ s → s .table ≡ ORIGINS → AllBuiltIn after → NoneRefused n s after
   none-from before [] s e is all = tt
   none-from before (c ∷ cs) s e is all =
@@ -69,7 +69,7 @@ module _ (b : Set) (l : RightLengths b) (n : ℕ) (gone : among n INVERSE-REFUSA
       let there = ap (λ (t : Standing). t .set) e in
       let same : standing ORIGINS (left ORIGINS b before .set) ≡ s = λ j. standing (sym is j) (there j) in
       let at : Standing → Type 0 = λ t. RefusedWith n (effect t c) in
-      let left-over : at s → among n INVERSE-REFUSALS ≡ true = λ r. call-left b l before in-force c (all .0) n (subst at (sym same) r) in
+      let left-over : at s → among n CALL-REFUSALS ≡ true = λ r. call-left b l before in-force c (all .0) n (subst at (sym same) r) in
       let next = run-then (opened ORIGINS b) before c ∙ ap (λ (t : Standing). step t c) e in (
         (λ r. true≢false (sym (left-over r) ∙ gone)),
         none-from (before ++ c ∷ []) cs (step s c) next (table-kept s c is (all .0)) (all .1),

@@ -28,6 +28,7 @@ use Rattle.set.specs.Checks.{checkOrigin}
 use Rattle.dodecahedron.specs.Place.{finitePlace}
 use Rattle.dodecahedron.specs.Work.{Work, answerOf, usedOf, finish}
 use Rattle.frame_data.specs.Claims.{Answers}
+use Rattle.place_list.specs.Lists.{checkCounts}
 use Rattle.histories.specs.Lists.{alone}
 use Rattle.opening.specs.Refusals.{among, Only}
 
@@ -126,6 +127,10 @@ module _ (ns : List ℕ) where
     pub face-only : (f : Face) → Only ns (checkFace f)
     unfolding checkFace
     face-only f = only-then _ _ (number-only _ _) (λ e. number-only _ _)
+
+  pub counts-only : among 14 ns ≡ true → (positions results : ℕ) → Only ns (checkCounts positions results)
+  unfolding checkCounts
+  counts-only h positions results = only-if (not (eqb positions results)) 14 passed h (only-answered tt)
 
   pub origin-only : among 4 ns ≡ true → (o : ℕ) → Only ns (checkOrigin o)
   unfolding checkOrigin

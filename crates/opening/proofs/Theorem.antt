@@ -3,11 +3,12 @@
 use mathlib.Core.Path.{_≡_, refl, sym, ap, subst, _∙_}
 use mathlib.Core.Bool.{true, true≢false}
 use mathlib.Core.List.{List, [], _∷_}
-use Prim.Native.Nat.{ℕ, _/_, _%_}
+use Prim.Native.Nat.{ℕ, zero, suc, _/_, _%_, _<_}
 use native.Mathlib.Omega.{arith}
 use lib.Dec.{leb}
+use lib.ListN.{length, getD}
 use lib.Ieee.{Float, ofBits}
-use Rattle.answer.specs.Given.{answered, refused}
+use Rattle.answer.specs.Given.{Given, answered, refused}
 use Rattle.answer.proofs.Given.{refused-answers-nothing}
 use Rattle.arithmetic.specs.Arith.{ieee}
 use Rattle.origin.specs.Origins.{ORIGINS}
@@ -19,19 +20,26 @@ use Rattle.set.proofs.Opening.{open-opened, built-in-check}
 use Rattle.stores.specs.Used.{usedWritten, allWritten}
 use Rattle.stores.specs.declared.used.Used.{Used}
 use Rattle.dodecahedron.specs.Calls.{forwardGiven, inverseGiven, placeGiven, unplaceGiven}
-use Rattle.histories.specs.Lists.{Standing, standing, Call, opens, forwards, inverses, places, unplaces, shows, asks, Effect, writes, uses, reads, effect, after, step, run}
+use Rattle.histories.specs.Lists.{Standing, standing, Call, opens, forwards, inverses, places, unplaces, lists, shows, asks, Effect, writes, uses, reads, effect, after, step, run}
+use Rattle.coordinates.specs.declared.lonlat.LonLat.{LonLat}
+use Rattle.dodecahedron.specs.Calls.{placeOn}
+use Rattle.dodecahedron.specs.declared.place.Place.{Place}
+use Rattle.place_list.specs.Lists.{checkList, resultOf}
+use Rattle.place_list.specs.declared.PlaceResult.{PlaceResult}
+use Rattle.place_list.specs.Uses.{usedByList}
 use Rattle.histories.specs.Defined.{sphereDefined}
 use Rattle.histories.specs.EveryList.{opened, left}
 use Rattle.histories.specs.BuiltIn.{BuiltIn}
 use Rattle.histories.proofs.Theorem.{every-list}
-use Rattle.histories.proofs.BuiltIn.{answers-built-in}
+use Rattle.histories.specs.Results.{each}
+use Rattle.histories.proofs.BuiltIn.{answers-built-in, results-built-in}
 use Rattle.frame_data.specs.Rows.{ROWS}
 use Rattle.frame_data.specs.Claims.{Answers}
 use Rattle.frame_data.proofs.Frame.{frame-is}
 use Rattle.frame_data.proofs.Triangles.{all-built}
 use Rattle.opening.specs.Opening.{RightLengths, OpenAnswers, RefusedWith, InForce, Never8, EverySlot, ConstantRows, KnownFrame, Demand3ByLengths}
-use Rattle.opening.specs.Refusals.{among, Only, FORWARD-REFUSALS, INVERSE-REFUSALS, PLACE-REFUSALS, RefusalsLeft}
-use Rattle.opening.proofs.Refusals.{Within, among-within, answer-refused}
+use Rattle.opening.specs.Refusals.{among, Only, FORWARD-REFUSALS, INVERSE-REFUSALS, PLACE-REFUSALS, CALL-REFUSALS, RefusalsLeft}
+use Rattle.opening.proofs.Refusals.{Within, among-within, answer-refused, only-passed, only-answered, only-then, counts-only}
 use Rattle.opening.proofs.Fresh.{rows-long, fresh-left}
 
 -- ---- open
@@ -69,12 +77,16 @@ frame-after-run (c ∷ cs) s h = frame-after-run cs (step s c) (frame-kept s (ef
 
 -- ---- after every list
 
--- inverse's refusals are all that a call has
-forward-within : Within FORWARD-REFUSALS INVERSE-REFUSALS
+-- each call's refusals are among those of all
+forward-within : Within FORWARD-REFUSALS CALL-REFUSALS
 unfolding among
 forward-within = (refl, (refl, (refl, (refl, tt))))
 
-place-within : Within PLACE-REFUSALS INVERSE-REFUSALS
+inverse-within : Within INVERSE-REFUSALS CALL-REFUSALS
+unfolding among
+inverse-within = (refl, (refl, (refl, (refl, (refl, tt)))))
+
+place-within : Within PLACE-REFUSALS CALL-REFUSALS
 unfolding among
 place-within = (refl, (refl, (refl, tt)))
 
@@ -104,21 +116,46 @@ module _ (b : Set) (l : RightLengths b) (cs : List Call) (is : InForce b cs) whe
         unplace = λ f o. subst (Only INVERSE-REFUSALS) (sym (same .unplace f o)) (there .unplace f o);
       }
 
+  -- a list of positions is itself refused only for the number of its results
+  list-only : (ps : List LonLat) (results : ℕ) → Only CALL-REFUSALS (usedByList ieee ORIGINS s ps results)
+  unfolding checkList among
+  list-only ps results =
+      let ns = CALL-REFUSALS in
+      let fits : Fits s = record { frame = lengths-after .frame; faces = lengths-after .faces; spheres = lengths-after .spheres } in
+      let checks = only-then ns _ _ (only-passed ns (built-in-check s ∙ set-passes s fits)) (λ set. counts-only ns refl (length ps) results) in
+      only-then ns _ _ checks (λ counts. only-answered ns _)
+
   -- whichever call comes next, open with the built-in table included
-  pub call-left : (c : Call) → BuiltIn c → (n : ℕ) → RefusedWith n (effect (standing ORIGINS s) c) → among n INVERSE-REFUSALS ≡ true
+  pub call-left : (c : Call) → BuiltIn c → (n : ℕ) → RefusedWith n (effect (standing ORIGINS s) c) → among n CALL-REFUSALS ≡ true
   call-left (opens table) built-in n e =
       let answers = ap (λ (t : List Float). openGiven ieee t s) built-in ∙ open-answers s lengths-after in
       refused-answers-nothing n tt (sym e ∙ answers)
   call-left (forwards p o) built-in n e =
       let mine = refusals-left .forward p o n (answer-refused (forwardGiven ieee ORIGINS s p o) n e) in
-      among-within n FORWARD-REFUSALS INVERSE-REFUSALS forward-within mine
-  call-left (inverses f o) built-in n e = refusals-left .inverse f o n (answer-refused (inverseGiven ieee ORIGINS s f o) n e)
+      among-within n FORWARD-REFUSALS CALL-REFUSALS forward-within mine
+  call-left (inverses f o) built-in n e =
+      let mine = refusals-left .inverse f o n (answer-refused (inverseGiven ieee ORIGINS s f o) n e) in
+      among-within n INVERSE-REFUSALS CALL-REFUSALS inverse-within mine
   call-left (places p) built-in n e =
       let mine = refusals-left .place p n (answer-refused (placeGiven ieee ORIGINS s p) n e) in
-      among-within n PLACE-REFUSALS INVERSE-REFUSALS place-within mine
-  call-left (unplaces f o) built-in n e = refusals-left .unplace f o n (answer-refused (unplaceGiven ieee ORIGINS s f o) n e)
+      among-within n PLACE-REFUSALS CALL-REFUSALS place-within mine
+  call-left (unplaces f o) built-in n e =
+      let mine = refusals-left .unplace f o n (answer-refused (unplaceGiven ieee ORIGINS s f o) n e) in
+      among-within n INVERSE-REFUSALS CALL-REFUSALS inverse-within mine
+  call-left (lists ps results) built-in n e = list-only ps results n e
   call-left (shows kind k) built-in n e = absurd e
   call-left (asks kind k) built-in n e = absurd e
+
+-- a position that is refused with 8 among some placed by themselves: place would give 8
+each-8 : (n : Set) → RefusalsLeft n → (ps : List LonLat) (i : ℕ) (r : PlaceResult) → i < length ps → getD (each ORIGINS n ps) i r .refusal ≡ 8 → ⊥
+unfolding among
+each-8 n only [] i r h e = omega arith
+each-8 n only (p ∷ ps) zero r h e = by (placeOn ieee ORIGINS n p .answer) refl e
+  where
+    by : (g : Given Place) → placeOn ieee ORIGINS n p .answer ≡ g → resultOf g .refusal ≡ 8 → ⊥
+    by (answered q) is e = omega arith
+    by (refused m) is e = true≢false (sym (only .place p 8 (is ∙ ap refused e)))
+each-8 n only (p ∷ ps) (suc i) r h e = each-8 n only ps i r (omega arith) e
 
 pub never-8 : Never8
 unfolding among
@@ -129,6 +166,11 @@ never-8 b l cs is =
       inverse = λ f o e. true≢false (sym (only .inverse f o 8 e));
       place = λ p e. true≢false (sym (only .place p 8 e));
       unplace = λ f o e. true≢false (sym (only .unplace f o 8 e));
+      place-list = λ ps i r h e.
+          let ready = open-answers b l in
+          let there : RefusalsLeft (opened ORIGINS b .set) = rw ready fresh-left in
+          let same = results-built-in b ready cs is b ready ps in
+          each-8 _ there ps i r h (ap (λ (rs : List PlaceResult). getD rs i r .refusal) (sym same) ∙ e);
       any-call = λ c built-in e. true≢false (sym (call-left b l cs is c built-in 8 e));
     }
 

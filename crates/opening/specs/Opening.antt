@@ -2,7 +2,7 @@
 use Prim.Native.Nat.{ℕ, _<_}
 use mathlib.Core.Path.{_≡_}
 use mathlib.Core.List.{List}
-use lib.ListN.{length}
+use lib.ListN.{length, getD}
 use lib.Ieee.{Float, binary64, ofBits}
 use Rattle.answer.specs.Given.{refused, passed}
 use Rattle.arithmetic.specs.Arith.{ieee}
@@ -17,6 +17,8 @@ use Rattle.set.specs.Set.{Set}
 use Rattle.set.specs.Open.{openOn}
 use Rattle.dodecahedron.specs.Projection.{rowAt}
 use Rattle.dodecahedron.specs.Calls.{forwardOn, inverseOn, placeOn, unplaceOn}
+use Rattle.place_list.specs.Lists.{placedInTurn}
+use Rattle.place_list.specs.declared.PlaceResult.{PlaceResult}
 use Rattle.histories.specs.Lists.{standing, Call, Effect, writes, uses, reads, effect}
 use Rattle.histories.specs.Defined.{sphereDefined}
 use Rattle.histories.specs.EveryList.{SameAnswers, EveryList, opened, left}
@@ -47,6 +49,8 @@ pub record Without8 (s : Set) : Type 0 where
   pub inverse : (f : Face) (o : ℕ) → inverseOn ieee ORIGINS s f o .answer ≡ refused 8 → ⊥
   pub place : (l : LonLat) → placeOn ieee ORIGINS s l .answer ≡ refused 8 → ⊥
   pub unplace : (f : Face) (o : ℕ) → unplaceOn ieee ORIGINS s f o .answer ≡ refused 8 → ⊥
+  -- nor is any position of a list refused with 8
+  pub place-list : (ps : List LonLat) (i : ℕ) (r : PlaceResult) → i < length ps → getD (placedInTurn ieee ORIGINS s ps .results) i r .refusal ≡ 8 → ⊥
   pub any-call : (c : Call) → BuiltIn c → RefusedWith 8 (effect (standing ORIGINS s) c) → ⊥
 
 -- after the list cs, calls take the built-in table: always, where no open of it brought another (`table-left` of

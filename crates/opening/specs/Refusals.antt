@@ -36,6 +36,10 @@ INVERSE-REFUSALS = 4 ∷ 5 ∷ 6 ∷ 19 ∷ 9 ∷ []
 abbrev pub PLACE-REFUSALS : List ℕ
 PLACE-REFUSALS = 5 ∷ 6 ∷ 9 ∷ []
 
+-- and a list of positions, that its results are not as many
+abbrev pub CALL-REFUSALS : List ℕ
+CALL-REFUSALS = 14 ∷ INVERSE-REFUSALS
+
 -- no others: no 1, 2, 3 or 8
 pub record RefusalsLeft (s : Set) : Type 0 where
   pub forward : (p : Spherical) (o : ℕ) → Only FORWARD-REFUSALS (forwardOn ieee ORIGINS s p o .answer)

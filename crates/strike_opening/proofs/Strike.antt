@@ -12,7 +12,7 @@ use Rattle.dodecahedron.specs.Work.{usedOf, setUsed}
 use Rattle.dodecahedron.specs.Calls.{placeGiven, unplaceGiven}
 use Rattle.histories.specs.Lists.{Standing, standing, Call, places, unplaces, uses, alone, effect, after, step}
 use Rattle.histories.proofs.BuiltIn.{table-left}
-use Rattle.histories.proofs.Alone.{alone-left}
+use Rattle.histories.proofs.Left.{alone-left}
 use Rattle.histories.specs.EveryList.{opened, left}
 use Rattle.strike_records.specs.Record.{Request, place, unplace, requestIn}
 use Rattle.strike_answers.specs.Reply.{lineOf, replyTo, reply}

@@ -2,7 +2,7 @@
 
 use crate::outcome::{show, Outcome};
 
-pub const CALLS: [&str; 23] = [
+pub const CALLS: [&str; 24] = [
     "open",
     "forward",
     "inverse",
@@ -18,6 +18,7 @@ pub const CALLS: [&str; 23] = [
     "fair_turns",
     "sqrt",
     "sqrt_rounds",
+    "place_list",
     "open_with",
     "forward_with",
     "inverse_with",
@@ -40,11 +41,12 @@ pub const BOX_TAKE: usize = 11;
 pub const FAIR_TURNS: usize = 12;
 pub const SQRT: usize = 13;
 pub const SQRT_ROUNDS: usize = 14;
-pub const OPEN_WITH: usize = 15;
-pub const FORWARD_WITH: usize = 16;
-pub const NEAREST_WITH: usize = 20;
-pub const TABLE_LOAD: usize = 21;
-pub const TABLE_SAVE: usize = 22;
+pub const PLACE_LIST: usize = 15;
+pub const OPEN_WITH: usize = 16;
+pub const FORWARD_WITH: usize = 17;
+pub const NEAREST_WITH: usize = 21;
+pub const TABLE_LOAD: usize = 22;
+pub const TABLE_SAVE: usize = 23;
 
 #[derive(Clone, Copy, PartialEq)]
 pub enum Where {

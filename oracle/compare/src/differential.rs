@@ -16,7 +16,7 @@ use crate::set::Set;
 use crate::spoil::Spoil;
 use crate::tables::Tables;
 use crate::turns_compared::Turns;
-use crate::{conversions, nearest, outside, refused, sheets, windows};
+use crate::{conversions, lists, nearest, outside, refused, sheets, windows};
 
 const FOUR: [Call; 4] = [Forward, Inverse, Place, Unplace];
 
@@ -166,6 +166,13 @@ impl Run {
             on_opened(&mut self.opened, &mut self.draw, call);
             on_foreign(&mut self.foreign, &mut self.draw, call);
         }
+        // a list a turn, on the three in turn
+        let script = match turn % 3 {
+            0 => &mut self.kept,
+            1 => &mut self.opened,
+            _ => &mut self.foreign,
+        };
+        lists::turn(script, &mut self.draw);
         let (kind, slot) = self.draw.slot();
         self.kept.show(kind, slot, self.draw.lengths(20));
         self.alone.turn(&mut self.draw, &self.kept.set);

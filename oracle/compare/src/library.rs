@@ -18,9 +18,9 @@ pub const BEHIND: usize = 5;
 const BEHIND_IS: f64 = 3.25;
 
 // What a byte that is lent for an answer holds before the call. No call answers it.
-const BYTE_BEFORE: u8 = 0xa5;
+pub const BYTE_BEFORE: u8 = 0xa5;
 
-fn of_byte(byte: u8) -> f64 {
+pub fn of_byte(byte: u8) -> f64 {
     match byte {
         BYTE_BEFORE => BEFORE,
         n => whole(n as usize),

@@ -27,6 +27,9 @@ mod foreign_sets;
 #[path = "../../calls/src/inputs.rs"]
 mod inputs;
 mod library;
+#[path = "../../lists/src/lists.rs"]
+mod list_oracle;
+mod lists;
 #[allow(dead_code)]
 #[path = "../../geometry/src/calls.rs"]
 mod nearest;

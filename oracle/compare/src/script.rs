@@ -19,7 +19,7 @@ pub struct Script {
     pub set: Set,
     pub counts: Counts,
     pub place: Where,
-    buffers: Buffers,
+    pub buffers: Buffers,
     opened: Set,
     // the Rust's own, with its own caches, since open; and whether all slots are filled
     kept: Option<DodecahedronProjection>,
@@ -68,7 +68,7 @@ impl Script {
         }
     }
 
-    fn asked<'a>(&self, call: usize, arguments: &'a [f64], lent: [usize; 3]) -> Asked<'a> {
+    pub fn asked<'a>(&self, call: usize, arguments: &'a [f64], lent: [usize; 3]) -> Asked<'a> {
         Asked {
             call,
             place: self.place,
@@ -77,7 +77,7 @@ impl Script {
         }
     }
 
-    fn compare(&mut self, asked: Asked, ours: &Outcome, rust: &Outcome) {
+    pub fn compare(&mut self, asked: Asked, ours: &Outcome, rust: &Outcome) {
         self.counts.compare(asked, ours, rust);
         self.counts
             .compare_buffers(asked, self.buffers.differing(&self.set));
@@ -135,7 +135,7 @@ impl Script {
 
     // The Rust's answer. Where all slots are filled nothing is left to be written: its own projection, which has these very
     // triangles in its caches, is enough. Until then it must give the same.
-    fn rust(&mut self, call: Call, lent: [usize; 3], x: &[f64]) -> Result<Vec<f64>, u8> {
+    pub fn rust(&mut self, call: Call, lent: [usize; 3], x: &[f64]) -> Result<Vec<f64>, u8> {
         let Some(kept) = &mut self.kept else {
             return calls::call(call, &mut self.set, lent, x);
         };

@@ -1,0 +1,5 @@
+-- Laws behind the proofs of the functions, and of lists.
+pub mod Rows
+pub mod Loop
+pub mod Lengths
+pub mod Laws
