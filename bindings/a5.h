@@ -87,8 +87,11 @@ enum a5_status {
     A5_REFUSED_HEADER = 11,      /* the input's header is missing, wrong or short */
     A5_REFUSED_RECORD_KIND = 12, /* a record's kind isn't 1 or 2, or kind 1 with a non-zero origin byte */
     A5_REFUSED_CUT_OFF = 13,     /* the input ends inside a record */
-    /* A list's. */
-    A5_REFUSED_RESULT_COUNT = 14, /* the lent results aren't as many as the positions */
+    /* A list's and a region's. */
+    A5_REFUSED_RESULT_COUNT = 14, /* the lent places aren't as many as the positions */
+    /* A region's. */
+    A5_REFUSED_POSITION_COUNT = 15, /* no positions, or more than 256 */
+    A5_REFUSED_ORIGINS_DIFFER = 16, /* two positions have different nearest origins */
     /* A window's. */
     A5_REFUSED_EARLIER_MINUTE = 17, /* the minute is earlier than the last accepted one */
     A5_REFUSED_WINDOW_FULL = 18,    /* 4,096 strikes remain after the drop */
@@ -98,6 +101,8 @@ enum a5_status {
     A5_REFUSED_TABLE_FILE = 20,       /* a table isn't 84 numbers long; a file's length, mark or version is wrong */
     A5_REFUSED_TABLE_NUMBER = 21,     /* a number of a table isn't finite or is outside its range */
     A5_REFUSED_TABLE_QUATERNION = 22, /* a row's quaternion is off unit length by more than 1e-12 */
+    /* A panel's. */
+    A5_REFUSED_BLOCK_LENGTH = 23, /* the register block isn't 32 bytes */
     /* Fair turns. */
     A5_REFUSED_WISH_COUNT = 24,  /* not exactly 16 wishes */
     A5_REFUSED_GRANT_COUNT = 25, /* not exactly 16 places for grants */

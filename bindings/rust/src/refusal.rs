@@ -31,8 +31,12 @@ pub enum Refusal {
     RecordKind = 12,
     /// The strike program's: the input ends inside a record.
     CutOff = 13,
-    /// A list's: the lent results aren't as many as the positions.
+    /// A list's and a region's: the lent places aren't as many as the positions.
     ResultCount = 14,
+    /// A region's: there are no positions, or more than 256.
+    PositionCount = 15,
+    /// A region's: two positions have different nearest origins.
+    OriginsDiffer = 16,
     /// A window's: the minute is earlier than the last accepted one.
     EarlierMinute = 17,
     /// A window's: 4,096 strikes remain after the drop.
@@ -46,6 +50,8 @@ pub enum Refusal {
     TableNumber = 21,
     /// A row of a table has a quaternion off unit length by more than 1e-12.
     TableQuaternion = 22,
+    /// A panel's: the register block isn't 32 bytes.
+    BlockLength = 23,
     /// Fair turns: not exactly 16 wishes.
     WishCount = 24,
     /// Fair turns: not exactly 16 places for grants.
@@ -56,7 +62,7 @@ pub enum Refusal {
 
 impl Refusal {
     /// Every refusal, in the table's order.
-    pub const ALL: [Refusal; 23] = [
+    pub const ALL: [Refusal; 26] = [
         Refusal::FrameLength,
         Refusal::FaceStoreLength,
         Refusal::SphereStoreLength,
@@ -71,12 +77,15 @@ impl Refusal {
         Refusal::RecordKind,
         Refusal::CutOff,
         Refusal::ResultCount,
+        Refusal::PositionCount,
+        Refusal::OriginsDiffer,
         Refusal::EarlierMinute,
         Refusal::WindowFull,
         Refusal::AngleOutside,
         Refusal::TableFile,
         Refusal::TableNumber,
         Refusal::TableQuaternion,
+        Refusal::BlockLength,
         Refusal::WishCount,
         Refusal::GrantCount,
         Refusal::PageLength,

@@ -36,6 +36,10 @@ numberOf refusal.RecordKind = 12
 numberOf refusal.CutOff = 13
 -- document 02's, by their papers. Paper 1: "the two slices differ in length"
 numberOf refusal.ResultCount = 14
+-- Paper 4: "no positions or more than 256"
+numberOf refusal.PositionCount = 15
+-- Paper 4: "two positions have different nearest origins"
+numberOf refusal.OriginsDiffer = 16
 -- Paper 5: "the minute is earlier than the last accepted one"
 numberOf refusal.EarlierMinute = 17
 -- Paper 5: "4,096 strikes remain after the drop"
@@ -48,6 +52,8 @@ numberOf refusal.TableFile = 20
 numberOf refusal.TableNumber = 21
 -- Paper 10: "a quaternion off unit length"
 numberOf refusal.TableQuaternion = 22
+-- Paper 11: "the register block isn't 32 bytes"
+numberOf refusal.BlockLength = 23
 -- Paper 12: "not exactly 16 wishes"
 numberOf refusal.WishCount = 24
 -- Paper 12: "not exactly 16 grant places"

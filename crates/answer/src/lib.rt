@@ -33,8 +33,12 @@ pub enum Refusal {
     RecordKind,
     // 13: strike program: the input ends inside a record
     CutOff,
-    // 14: lists: the lent results aren't as many as the positions (Paper 1)
+    // 14: lists, region: the lent places aren't as many as the positions (Papers 1 and 4)
     ResultCount,
+    // 15: region: there are no positions, or more than 256 (Paper 4)
+    PositionCount,
+    // 16: region: two positions have different nearest origins (Paper 4)
+    OriginsDiffer,
     // 17: window: the minute is earlier than the last accepted one (Paper 5)
     EarlierMinute,
     // 18: window: 4,096 strikes remain after the drop (Paper 5)
@@ -47,6 +51,8 @@ pub enum Refusal {
     TableNumber,
     // 22: table: a row's quaternion is off unit length (Paper 10)
     TableQuaternion,
+    // 23: panel: the register block isn't 32 bytes (Paper 11)
+    BlockLength,
     // 24: turns: there aren't exactly 16 wishes (Paper 12)
     WishCount,
     // 25: turns: there aren't exactly 16 grant places (Paper 12)
@@ -74,12 +80,15 @@ pub fn number(r: Refusal) -> u8
         Refusal::RecordKind => 12,
         Refusal::CutOff => 13,
         Refusal::ResultCount => 14,
+        Refusal::PositionCount => 15,
+        Refusal::OriginsDiffer => 16,
         Refusal::EarlierMinute => 17,
         Refusal::WindowFull => 18,
         Refusal::AngleOutside => 19,
         Refusal::TableFile => 20,
         Refusal::TableNumber => 21,
         Refusal::TableQuaternion => 22,
+        Refusal::BlockLength => 23,
         Refusal::WishCount => 24,
         Refusal::GrantCount => 25,
         Refusal::PageLength => 26,

@@ -1,2 +1,3 @@
 -- Laws behind the proofs of the C functions.
 pub mod Returns
+pub mod Tables

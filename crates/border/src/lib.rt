@@ -1,1 +1,2 @@
-// No code: this crate holds definitions (specs/) and laws about them (proofs/).
+// What the C functions share: the statement of one (specs/), and the numbers of a table that is lent with a length.
+pub mod rows;

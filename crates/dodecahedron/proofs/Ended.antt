@@ -15,8 +15,8 @@ use Rattle.coordinates.specs.declared.polar.Polar.{Polar}
 use Rattle.coordinates.specs.declared.spherical.Spherical.{Spherical}
 use Rattle.origin.specs.Origins.{ORIGINS, originAt}
 use Rattle.origin.specs.Table.{checkTable}
-use Rattle.origin.specs.Nearest.{nearestOrigin}
-use Rattle.origin.proofs.LowestNearest.{nearest-is}
+use Rattle.nearest.specs.Nearest.{nearestOrigin}
+use Rattle.nearest.proofs.LowestNearest.{nearest-is}
 use Rattle.set.specs.Set.{Set, checkSet}
 use Rattle.set.specs.Checks.{checkOrigin, checkCall, checkWith}
 use Rattle.set.proofs.Lengths.{with-passed, origin-passed, call-passes}

@@ -14,7 +14,7 @@ use Rattle.coordinates.specs.declared.lonlat.LonLat.{LonLat}
 use Rattle.coordinates.specs.declared.spherical.Spherical.{Spherical}
 use Rattle.origin.specs.Origins.{originAt}
 use Rattle.origin.specs.Table.{checkTable}
-use Rattle.origin.specs.Nearest.{nearestOrigin}
+use Rattle.nearest.specs.Nearest.{nearestOrigin}
 use Rattle.set.specs.Set.{Set, checkSet}
 use Rattle.set.specs.Checks.{checkOrigin}
 use Rattle.set.specs.Outcome.{Outcome}

@@ -1,5 +1,5 @@
-// The calls on a set: a frame, a face store and a sphere store.
-pub mod calls;
+// What forward and inverse work out on a set, with nothing written: the types of it, and the work. Crates calls and table_calls
+// have the calls.
 pub mod place;
 pub mod projection;
 pub mod work;

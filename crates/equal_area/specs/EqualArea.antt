@@ -16,7 +16,7 @@ use Rattle.coordinates.specs.declared.coords.Cartesian.{Cartesian}
 use Rattle.coordinates.specs.declared.coords.Barycentric.{Barycentric}
 use Rattle.coordinates.specs.declared.coords.FaceTriangle.{FaceTriangle}
 use Rattle.coordinates.specs.declared.coords.SphericalTriangle.{SphericalTriangle}
-use Rattle.equal_area.specs.SphericalPolygon.{sphericalTriangleArea}
+use Rattle.spherical_polygon.specs.SphericalPolygon.{sphericalTriangleArea}
 use Rattle.equal_area.specs.declared.equal_area.TriangleConstants.{TriangleConstants}
 use Rattle.equal_area.specs.declared.equal_area.PointAnswer.{PointAnswer}
 use Rattle.equal_area.specs.declared.equal_area.PointAnswer.the-variants as point

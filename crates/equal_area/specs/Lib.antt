@@ -1,3 +1,2 @@
--- geometry/spherical_polygon.rs and projections/equal_area.rs. Definitions only.
-pub mod SphericalPolygon
+-- projections/equal_area.rs. Definitions only.
 pub mod EqualArea

@@ -1,8 +1,6 @@
 // Equal-area projection of Snyder, with closed-form equations: a point of a spherical triangle ABC
 // goes to the face triangle by way of P, where the great circles through A and the point, and through
 // B and C, meet.
-use crate::spherical_polygon::spherical_triangle_area;
-use crate::spherical_polygon::spherical_triangle_area_and_sqrt;
 use answer::Refusal;
 use coordinates::coords::Barycentric;
 use coordinates::coords::Cartesian;
@@ -12,6 +10,8 @@ use coordinates::coords::SphericalTriangle;
 use elementary::sine::SinCos;
 use elementary::sine::SinCosAnswer;
 use sine::sin_cos;
+use spherical_polygon::spherical_triangle_area;
+use spherical_polygon::spherical_triangle_area_and_sqrt;
 use square_root::root::sqrt;
 use square_root::signs::abs;
 use square_root::signs::max_zero;

@@ -1,3 +1,2 @@
 // The equal-area map between a spherical triangle and a face triangle (equal_area.rs of the Rust).
 pub mod equal_area;
-pub mod spherical_polygon;

@@ -1,2 +1,2 @@
--- The calls with a table as C functions. Definitions only.
-pub mod Tables
+-- The table file as C functions. Definitions only.
+pub mod Files

@@ -1,10 +1,11 @@
 // The table file as C functions.
-use crate::rows::rows;
+use border::rows::rows;
 ghost use Rattle.arithmetic.specs.Arith.{ieee};
 ghost use lib.ListN.{length};
 ghost use Rattle.border.specs.Returns.{Returns, contents};
 ghost use Rattle.table_file.specs.TableFile.{tableGiven, fileGiven};
-ghost use Rattle.exports_tables.specs.Tables.{withTable, whole};
+ghost use Rattle.border.specs.Tables.{withTable};
+ghost use Rattle.exports_tables.specs.Files.{whole};
 
 // Load: the 84 numbers of a table file go to table.
 #[no_mangle]

@@ -1,24 +1,22 @@
-// The calls with a table of origins as C functions, and the table file. What crate exports says of pointers, lengths and answers
+// Open and nearest with a table of origins as C functions, and the table file. What crate exports says of pointers, lengths and answers
 // holds here too. A table is a pointer and a length in C: one that isn't 84 numbers long is refused with 20 before anything else
 // is tried, and the 84 numbers are then handed to the call by value.
-pub mod calls;
 pub mod files;
-pub mod rows;
 
-use crate::rows::rows;
+use border::rows::rows;
 use coordinates::base::Radians;
 use coordinates::spherical::Spherical;
-use origin::origin::OriginAnswer;
+use nearest::OriginAnswer;
 use set::open::OpenAnswer;
 ghost use mathlib.Core.Path.{_≡_};
 ghost use Rattle.arithmetic.specs.Arith.{ieee};
-ghost use Rattle.origin.specs.Nearest.{nearestGiven};
+ghost use Rattle.nearest.specs.Nearest.{nearestGiven};
 ghost use Rattle.set.specs.Outcome.{lent, Becomes};
 ghost use Rattle.set.specs.Open.{openOn};
 ghost use Rattle.answer.specs.Given.{status};
 ghost use Rattle.border.specs.Returns.{Returns, contents};
 ghost use Rattle.border.specs.Calls.{id as Calls·id, spherical};
-ghost use Rattle.exports_tables.specs.Tables.{withTable, withTableOn};
+ghost use Rattle.border.specs.Tables.{withTable, withTableOn};
 
 // Open with a table: writes the frame and fills both stores with 0.0.
 #[no_mangle]
@@ -53,7 +51,7 @@ pub extern "C" fn a5_nearest_with(table: &[f64], theta: f64, phi: f64, id: &mut 
         theta: Radians(theta),
         phi: Radians(phi),
     };
-    let given = origin::origin::nearest_with(rows(table), point);
+    let given = nearest::nearest_with(rows(table), point);
     match given {
         OriginAnswer::Answered(nearest) => {
             *id = nearest;

@@ -20,8 +20,8 @@ use Rattle.coordinates.specs.declared.polar.Polar.{Polar}
 use Rattle.coordinates.specs.declared.spherical.Spherical.{Spherical}
 use Rattle.origin.specs.Origins.{originAt}
 use Rattle.origin.specs.Table.{checkTable}
-use Rattle.origin.specs.Nearest.{nearestOrigin}
-use Rattle.origin.proofs.LowestNearest.{nearest-is}
+use Rattle.nearest.specs.Nearest.{nearestOrigin}
+use Rattle.nearest.proofs.LowestNearest.{nearest-is}
 use Rattle.tiling.specs.Index.{triangleIndex, shouldReflect}
 use Rattle.tiling.proofs.Modulo.{index-below-10}
 use Rattle.crs.specs.Frame.{frameRows}

@@ -16,9 +16,9 @@ use Rattle.coordinates.specs.declared.lonlat.LonLat.{LonLat}
 use Rattle.coordinates.specs.declared.polar.Polar.{Polar}
 use Rattle.coordinates.specs.declared.spherical.Spherical.{Spherical}
 use Rattle.origin.specs.Origins.{ORIGINS, originAt}
-use Rattle.origin.specs.Nearest.{nearestOrigin}
+use Rattle.nearest.specs.Nearest.{nearestOrigin}
 use Rattle.origin.proofs.BuiltInPasses.{built-in-passes}
-use Rattle.origin.proofs.LowestNearest.{nearest-is}
+use Rattle.nearest.proofs.LowestNearest.{nearest-is}
 use Rattle.tiling.specs.Index.{triangleIndex, shouldReflect}
 use Rattle.tiling.specs.FaceTriangles.{faceTriangle}
 use Rattle.tiling.proofs.Modulo.{index-below-10}

@@ -58,7 +58,7 @@ fn place_one(
     ensures { λ r. ⌜ step r (lent frame «face_store» «sphere_store» .exit)
         ≡ placedOne ieee ORIGINS (lent frame «face_store» «sphere_store» .entry) position ⌝ }
 {
-    let given = dodecahedron::calls::place(frame, face_store, sphere_store, position);
+    let given = calls::place(frame, face_store, sphere_store, position);
     result(given)
 }
 

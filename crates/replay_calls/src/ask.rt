@@ -3,7 +3,6 @@ use answer::bits;
 use coordinates::conversions::FaceAnswer;
 use coordinates::conversions::LonLatAnswer;
 use coordinates::conversions::SphericalAnswer;
-use dodecahedron::calls;
 use dodecahedron::place::PlaceAnswer;
 use replay::outcome::Outcome;
 use replay::outcome::refused;

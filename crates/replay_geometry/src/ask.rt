@@ -1,5 +1,5 @@
 // Nearest and the functions on rotations and triangles, each at a record's arguments.
-use origin::origin::OriginAnswer;
+use nearest::OriginAnswer;
 use origin::utils::Quat;
 use replay::outcome::Outcome;
 use replay::outcome::one;
@@ -11,7 +11,7 @@ use sine::is_outside;
 
 // The nearest origin's id, or the refusal.
 pub fn nearest(words: &[u8; 96]) -> Outcome {
-    match origin::origin::nearest(replay_arguments::spherical(words, 0)) {
+    match nearest::nearest(replay_arguments::spherical(words, 0)) {
         OriginAnswer::Answered(id) => whole(id as u64),
         OriginAnswer::Refused(r) => refused(answer::number(r)),
     }
@@ -33,7 +33,7 @@ pub fn haversine(words: &[u8; 96]) -> Outcome {
     if is_outside(axis.phi.0) {
         return refused(19);
     }
-    one(origin::origin::haversine(point, axis))
+    one(nearest::haversine(point, axis))
 }
 
 // The quaternion behind a vector.

@@ -1,15 +1,15 @@
 // A call that is lent the set, with its other arguments, and what it comes to on a set.
 use answer::bits;
+use calls::forward;
+use calls::inverse;
+use calls::place;
+use calls::unplace;
 use coordinates::conversions::FaceAnswer;
 use coordinates::conversions::LonLatAnswer;
 use coordinates::conversions::SphericalAnswer;
 use coordinates::coords::Face;
 use coordinates::lonlat::LonLat;
 use coordinates::spherical::Spherical;
-use dodecahedron::calls::forward;
-use dodecahedron::calls::inverse;
-use dodecahedron::calls::place;
-use dodecahedron::calls::unplace;
 use dodecahedron::place::PlaceAnswer;
 use replay::outcome::Outcome;
 use replay::outcome::refused;

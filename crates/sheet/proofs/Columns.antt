@@ -7,10 +7,10 @@ use lib.ListN.{length, getD, take, drop, length-append, length-drop, length-repl
 use lib.Seq.{take-at, drop-at, getD-at, getD-drop, drop-cons, drop-drop, drop-append-le, take-append-le}
 use Rattle.decimal.specs.Decimal.{digit, decimal}
 use Rattle.decimal.proofs.Digits.{by-digits}
-use Rattle.sheet.specs.Page.{SPACE, NEWLINE, spaces, line, rightAligned, numbered, linesOf, pageOf}
+use Rattle.sheet_lines.specs.Page.{SPACE, NEWLINE, spaces, line, rightAligned, numbered, linesOf, pageOf}
 use Rattle.sheet.specs.Claims.{columnsAt}
-use Rattle.sheet.proofs.Number.{length-aligned}
-use Rattle.sheet.proofs.Lines.{sixty, lines-long, first-long}
+use Rattle.sheet_lines.proofs.Number.{length-aligned}
+use Rattle.sheet_lines.proofs.Lines.{sixty, lines-long, first-long}
 
 -- ---- texts with no newline
 abbrev pub Printable : List ℕ → Type 0

@@ -1,5 +1,3 @@
 -- What the proofs of this crate share, and the theorems.
-pub mod Number
-pub mod Lines
 pub mod Columns
 pub mod Theorem

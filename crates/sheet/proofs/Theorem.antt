@@ -16,12 +16,12 @@ use Rattle.window.specs.Kept.{Strike, kept, accepted, count}
 use Rattle.window.specs.EveryList.{sum, after, Holds}
 use Rattle.window.specs.declared.Window.{Window}
 use Rattle.window.proofs.Theorem.{every-list}
-use Rattle.sheet.specs.Page.{TITLE, ALL, SPACE, NEWLINE, line, rightAligned, numbered, row, blank, linesOf, pageOf}
+use Rattle.sheet_lines.specs.Page.{TITLE, ALL, SPACE, NEWLINE, line, rightAligned, numbered, row, blank, linesOf, pageOf}
 use Rattle.sheet.specs.Sheet.{PAGE, sheetGiven, pageAfter, SheetOf}
 use Rattle.answer.specs.declared.Check.{Check}
 use Rattle.sheet.specs.Claims.{columnsAt, LaidOut, ReadsBack, EveryPage, SamePage, SameCounts, PrintsKept, EverySheet}
-use Rattle.sheet.proofs.Number.{length-aligned, reads-aligned}
-use Rattle.sheet.proofs.Lines.{each-line, row-at, first-long, all-lines}
+use Rattle.sheet_lines.proofs.Number.{length-aligned, reads-aligned}
+use Rattle.sheet_lines.proofs.Lines.{each-line, row-at, first-long, all-lines}
 use Rattle.sheet.proofs.Columns.{Columns, line-columns, numbered-columns, number-prints, newline-of, column-of, number-of, left-of, byte-in, columns-in}
 
 module _ (counts : List ℕ) where

@@ -1,5 +1,3 @@
--- Paper 13, "The as-run sheet": the page, the call, and what follows. Definitions only.
-pub mod Letters
-pub mod Page
+-- Paper 13, "The as-run sheet": the call, and what follows. Definitions only.
 pub mod Sheet
 pub mod Claims

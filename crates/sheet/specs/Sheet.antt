@@ -8,7 +8,7 @@ use lib.ListN.{length}
 use Rattle.answer.specs.Given.{Given, answered, refused, passed, refuseIf}
 use Rattle.answer.specs.Answer.{givenCheck}
 use Rattle.answer.specs.declared.Check.{Check}
-use Rattle.sheet.specs.Page.{pageOf}
+use Rattle.sheet_lines.specs.Page.{pageOf}
 
 -- 60 lines of 80 columns and a newline
 abbrev pub PAGE : ℕ

@@ -3,147 +3,17 @@
 // every byte of the page is defined.
 use answer::Check;
 use answer::Refusal;
+use sheet_lines::write_line;
 use window::Window;
 ghost use mathlib.Core.Path.{_≡_};
-ghost use mathlib.Core.Bool.{cond};
-ghost use mathlib.Core.List.{[], _++_};
-ghost use Prim.Native.Nat.{_+_, _*_, _%_, _<_, _≤_};
-ghost use lib.Dec.{eqb};
-ghost use lib.ListN.{length, getD, take, drop};
-ghost use Rattle.decimal.specs.Decimal.{digit, decimal};
-ghost use Rattle.window.specs.EveryList.{sum};
-ghost use Rattle.sheet.specs.Page.{SPACE, TITLE, ALL, line as Page·line, blank, rightAligned, numbered, linesOf, pageOf};
+ghost use lib.ListN.{length};
+ghost use Rattle.sheet_lines.specs.Page.{pageOf};
 ghost use Rattle.sheet.specs.Sheet.{SheetOf};
 
 // The bytes of a page, and those of a line with its newline.
 pub const PAGE: usize = 4860;
 
 const LINE: usize = 81;
-
-// A count as a number of 64 bits.
-fn wide(x: u32) -> u64
-    ensures same { λ r. ⌜ r ≡ x ⌝ }
-    ensures small { λ r. ⌜ r < 4294967296 ⌝ }
-{
-    x as u64
-}
-
-// The sum of the twelve counts. A u64 holds it.
-fn total(counts: &[u32; 12]) -> u64
-    ensures { λ r. ⌜ r ≡ sum (take 12 (now (counts .entry))) ⌝ }
-{
-    let mut k: usize = 0;
-    let mut all: u64 = 0;
-    while k < 12 {
-        all += wide(counts[k]);
-        k += 1;
-    }
-    all
-}
-
-// The last digit of what is left of a number, and a space where nothing is left.
-fn column(rest: u64) -> u8
-    ensures { λ r. ⌜ r ≡ cond (eqb rest 0) SPACE (digit (rest % 10)) ⌝ }
-{
-    if rest == 0 {
-        return b' ';
-    }
-    48 + (rest % 10) as u8
-}
-
-// A number, right-aligned in the columns that are lent.
-fn write_number(columns: &mut [u8], n: u64)
-    requires { ⌜ 0 < length (now columns) ⌝ }
-    ensures { λ _. ⌜ now (columns .exit) ≡ rightAligned (length (now (columns .entry))) (decimal n) ⌝ }
-{
-    let mut at = columns.len() - 1;
-    columns[at] = 48 + (n % 10) as u8;
-    let mut rest = n / 10;
-    while at > 0 {
-        at -= 1;
-        columns[at] = column(rest);
-        rest /= 10;
-    }
-}
-
-// A text from the first column on.
-fn write_text(line: &mut [u8], text: &[u8])
-    requires { ⌜ length (now text) ≤ length (now line) ⌝ }
-    ensures { λ _. ⌜ now (line .exit) ≡ now (text .entry) ++ drop (length (now (text .entry))) (now (line .entry)) ⌝ }
-{
-    let mut i: usize = 0;
-    while i < text.len() {
-        line[i] = text[i];
-        i += 1;
-    }
-}
-
-// A line of spaces.
-fn write_blank(line: &mut [u8])
-    requires { ⌜ length (now line) ≡ 81 ⌝ }
-    ensures { λ _. ⌜ now (line .exit) ≡ blank ⌝ }
-{
-    let mut i: usize = 0;
-    while i < 80 {
-        line[i] = b' ';
-        i += 1;
-    }
-    line[80] = b'\n';
-}
-
-// The first line.
-fn write_title(line: &mut [u8])
-    requires { ⌜ length (now line) ≡ 81 ⌝ }
-    ensures { λ _. ⌜ now (line .exit) ≡ Page·line TITLE [] ⌝ }
-{
-    write_blank(line);
-    write_text(line, b"STORM COUNTS");
-}
-
-// The row of an origin: its number, and its count.
-fn write_row(line: &mut [u8], origin: u64, count: u64)
-    requires { ⌜ length (now line) ≡ 81 ⌝ }
-    ensures { λ _. ⌜ now (line .exit) ≡ numbered (rightAligned 2 (decimal origin)) count ⌝ }
-{
-    write_blank(line);
-    write_number(&mut line[0..2], origin);
-    write_number(&mut line[70..80], count);
-}
-
-// The line of the sum.
-fn write_all(line: &mut [u8], all: u64)
-    requires { ⌜ length (now line) ≡ 81 ⌝ }
-    ensures { λ _. ⌜ now (line .exit) ≡ numbered ALL all ⌝ }
-{
-    write_blank(line);
-    write_text(line, b"ALL");
-    write_number(&mut line[70..80], all);
-}
-
-// A line of the page, by its place, counted from 0.
-fn write_line(line: &mut [u8], place: usize, counts: &[u32; 12])
-    requires { ⌜ (length (now line) ≡ 81) × (place < 60) ⌝ }
-    ensures { λ _. ⌜ now (line .exit) ≡ getD (linesOf (now (counts .entry))) place [] ⌝ }
-{
-    if place == 0 {
-        write_title(line);
-        return;
-    }
-    if place == 1 {
-        write_blank(line);
-        return;
-    }
-    if place < 14 {
-        let k = place - 2;
-        write_row(line, k as u64, wide(counts[k]));
-        return;
-    }
-    if place == 14 {
-        write_all(line, total(counts));
-        return;
-    }
-    write_blank(line);
-}
 
 // Every line of the page in turn.
 fn write_page(page: &mut [u8], counts: &[u32; 12])

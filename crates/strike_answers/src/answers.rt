@@ -34,7 +34,7 @@ fn answer_place(
     ensures { λ r. ⌜ Replies (lent frame «face_store» «sphere_store») (lentBytes out) at r
         (λ s. replyTo ieee ORIGINS s (answered (place lonlat))) ⌝ }
 {
-    match dodecahedron::calls::place(frame, face_store, sphere_store, lonlat) {
+    match calls::place(frame, face_store, sphere_store, lonlat) {
         PlaceAnswer::Answered(p) => write_place(out, at, p),
         PlaceAnswer::Refused(n) => write_refusal(out, at, answer::number(n)),
     }
@@ -54,7 +54,7 @@ fn answer_unplace(
     ensures { λ r. ⌜ Replies (lent frame «face_store» «sphere_store») (lentBytes out) at r
         (λ s. replyTo ieee ORIGINS s (answered (unplace point origin))) ⌝ }
 {
-    match dodecahedron::calls::unplace(frame, face_store, sphere_store, point, origin) {
+    match calls::unplace(frame, face_store, sphere_store, point, origin) {
         LonLatAnswer::Answered(l) => write_lon_lat(out, at, l),
         LonLatAnswer::Refused(n) => write_refusal(out, at, answer::number(n)),
     }

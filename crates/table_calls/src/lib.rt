@@ -21,7 +21,7 @@ use dodecahedron::work::finish_face;
 use dodecahedron::work::finish_lon_lat;
 use dodecahedron::work::finish_place;
 use dodecahedron::work::finish_spherical;
-use origin::origin::find_nearest_in;
+use nearest::find_nearest_in;
 use origin::table::origin_in;
 use set::checks::check_origin;
 use set::checks::check_with;

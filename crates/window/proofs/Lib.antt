@@ -1,5 +1,4 @@
 -- What the proofs of this crate share, and the theorem over every list of additions.
-pub mod Loops
 pub mod Ways
 pub mod Parts
 pub mod Recent

@@ -2,16 +2,9 @@
 use Prim.Native.Nat.{ℕ}
 use mathlib.Core.List.{List}
 use lib.ListN.{replicate}
+pub use Rattle.window_ring.specs.Ring.{MOST, SPAN}
 use Rattle.window.specs.declared.State.{State}
 use Rattle.window.specs.declared.Window.{Window}
-
--- "at most 4,096 strikes"
-abbrev pub MOST : ℕ
-MOST = 4096
-
--- "the last 180 minutes"
-abbrev pub SPAN : ℕ
-SPAN = 180
 
 -- the place of the oldest strike, how many are kept, and the minute of the last one accepted
 abbrev pub stateOf : ℕ → ℕ → ℕ → State

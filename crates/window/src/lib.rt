@@ -3,10 +3,14 @@
 // the work, on the arrays and a small state. No function has a `requires`: whatever a window holds, an addition ends.
 use answer::Check;
 use answer::Refusal;
+use window_ring::lower_counts;
+use window_ring::raise_count;
+use window_ring::remaining;
+use window_ring::saturating_sub;
 ghost use mathlib.Core.Path.{_≡_};
-ghost use Prim.Native.Nat.{_-_, _%_, min};
+ghost use Prim.Native.Nat.{min};
 ghost use Rattle.window.specs.Window.{windowOf, emptyWindow};
-ghost use Rattle.window.specs.Addition.{lower, raise, remain, lowered, AddedTo};
+ghost use Rattle.window.specs.Addition.{AddedTo};
 
 // What a window knows beside its strikes and counts: the place of the oldest strike, how many are kept, and the minute of
 // the last one accepted.
@@ -53,68 +57,11 @@ pub fn new() -> Window
     }
 }
 
-// a - b, and 0 where b is the greater.
-fn saturating_sub(a: u32, b: u32) -> u32
-    ensures { λ r. ⌜ r ≡ a - b ⌝ }
-{
-    if b < a { a - b } else { 0 }
-}
-
 // The lesser of two numbers.
 fn lesser(a: u32, b: u32) -> u32
     ensures { λ r. ⌜ r ≡ min a b ⌝ }
 {
     if a < b { a } else { b }
-}
-
-// Counts one less for an origin.
-fn lower_count(counts: &mut [u32; 12], origin: u8)
-    ensures { λ _. ⌜ now (counts .exit) ≡ lower (now (counts .entry)) origin ⌝ }
-{
-    let k = origin as usize;
-    if k < 12 {
-        counts[k] = saturating_sub(counts[k], 1);
-    }
-}
-
-// Counts one more for an origin.
-fn raise_count(counts: &mut [u32; 12], origin: u8)
-    ensures { λ _. ⌜ now (counts .exit) ≡ raise (now (counts .entry)) origin ⌝ }
-{
-    let k = origin as usize;
-    if k < 12 {
-        counts[k] = std::num::wrapping_add_u32(counts[k], 1);
-    }
-}
-
-// How many of n strikes from a place on are left when, from the oldest on, those are dropped that are 180 minutes or more
-// behind `minute`.
-fn remaining(minutes: &[u32; 4096], minute: u32, n: u32, from: u32) -> u32
-    ensures { λ r. ⌜ r ≡ remain (now (minutes .entry)) minute n (from % 4096) ⌝ }
-{
-    let mut at = (from as usize) % 4096;
-    let mut k = n;
-    while 0 < k {
-        if saturating_sub(minute, minutes[at]) < 180 {
-            return k;
-        }
-        at = (at + 1) % 4096;
-        k -= 1;
-    }
-    0
-}
-
-// Counts one less for the origin of each of n strikes from a place on.
-fn lower_counts(origins: &[u8; 4096], counts: &mut [u32; 12], n: u32, from: u32)
-    ensures { λ _. ⌜ now (counts .exit) ≡ lowered (now (origins .entry)) n (from % 4096) (now (counts .entry)) ⌝ }
-{
-    let mut at = (from as usize) % 4096;
-    let mut k = n;
-    while 0 < k {
-        lower_count(counts, origins[at]);
-        at = (at + 1) % 4096;
-        k -= 1;
-    }
 }
 
 // A refused addition leaves the state as it was.

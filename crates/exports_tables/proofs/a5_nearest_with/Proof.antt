@@ -2,9 +2,9 @@
 use mathlib.Core.Path.{refl, sym, ap, _∙_}
 use borrow.Author.Needs.{needs}
 use borrow.Author.Tests.{eq-eqb, ne-eqb}
-use Rattle.origin.specs.Nearest.{givenOrigin}
+use Rattle.nearest.specs.Nearest.{givenOrigin}
 use Rattle.border.proofs.Returns.{returns-answer, returns-refusal}
-use Rattle.exports_tables.proofs.Tables.{other-length, rows-of}
+use Rattle.border.proofs.Tables.{other-length, rows-of}
 use Rattle.exports_tables.proofs.a5_nearest_with.Statement.{statement}
 use Rattle.exports_tables.proofs.a5_nearest_with.Tie as tie
 

@@ -5,7 +5,7 @@ use borrow.Author.Tests.{eq-eqb, ne-eqb}
 use Rattle.answer.specs.Given.{status}
 use Rattle.set.specs.Open.{givenOpen}
 use Rattle.set.specs.Outcome.{Outcome}
-use Rattle.exports_tables.proofs.Tables.{other-length-on, rows-of-on}
+use Rattle.border.proofs.Tables.{other-length-on, rows-of-on}
 use Rattle.exports_tables.proofs.a5_open_with.Statement.{statement}
 use Rattle.exports_tables.proofs.a5_open_with.Tie as tie
 

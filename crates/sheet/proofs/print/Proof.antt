@@ -6,7 +6,7 @@ use borrow.Author.Needs.{needs}
 use borrow.Author.Tests.{eq-eqb, ne-eqb}
 use lib.ListN.{length}
 use Rattle.answer.specs.Given.{Given, refused, passed}
-use Rattle.sheet.specs.Page.{pageOf}
+use Rattle.sheet_lines.specs.Page.{pageOf}
 use Rattle.sheet.specs.Sheet.{PAGE, sheetGiven, pageAfter, SheetOf}
 use Rattle.answer.specs.declared.Check.the-variants as check
 use Rattle.answer.specs.declared.Refusal.the-variants as refusal

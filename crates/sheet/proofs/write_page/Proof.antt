@@ -7,7 +7,7 @@ use native.Mathlib.Numerals.{add-one}
 use native.Mathlib.Omega.{arith}
 use borrow.Author.Needs.{needs}
 use lib.ListN.{length}
-use Rattle.sheet.proofs.Lines.{upTo, up-to-long, one-line-more, all-lines-stand}
+use Rattle.sheet_lines.proofs.Lines.{upTo, up-to-long, one-line-more, all-lines-stand}
 use Rattle.sheet.proofs.write_page.Statement.{statement}
 use Rattle.sheet.proofs.write_page.Tie as tie
 

@@ -6,8 +6,8 @@ use lib.ListN.{length}
 use lib.Seq.{length-take-le}
 use Rattle.strike_records.specs.Line.{LINE}
 use Rattle.set.specs.Set.{setOf}
-use Rattle.strike.specs.Steps.{stateOf}
-use Rattle.strike.proofs.Arrived.{ended}
+use Rattle.strike_reads.specs.Steps.{stateOf}
+use Rattle.strike_reads.proofs.Arrived.{ended}
 use Rattle.strike.proofs.answer_all.Statement.{statement}
 use Rattle.strike.proofs.answer_all.Tie as tie
 

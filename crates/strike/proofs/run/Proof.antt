@@ -9,8 +9,8 @@ use Rattle.arithmetic.specs.Arith.{ieee}
 use Rattle.origin.specs.Origins.{ORIGINS}
 use Rattle.set.specs.Set.{setOf}
 use Rattle.set.specs.Open.{openOn}
-use Rattle.strike.specs.Steps.{stateOf, begun, Ended}
-use Rattle.strike.proofs.Arrived.{begins, from-open}
+use Rattle.strike_reads.specs.Steps.{stateOf, begun, Ended}
+use Rattle.strike_reads.proofs.Arrived.{begins, from-open}
 use Rattle.strike.proofs.run.Statement.{statement}
 use Rattle.strike.proofs.run.Tie as tie
 

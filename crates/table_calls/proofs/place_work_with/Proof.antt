@@ -7,7 +7,7 @@ use Rattle.answer.proofs.Given.{then-answered, then-passed}
 use Rattle.arithmetic.specs.Arith.{ieee}
 use Rattle.coordinates.specs.Conversions.{checkLonLat}
 use Rattle.coordinates.proofs.Sizes.{latitude-inside, from-lon-lat-inside}
-use Rattle.origin.proofs.LowestNearest.{nearest-is}
+use Rattle.nearest.proofs.LowestNearest.{nearest-is}
 use Rattle.set.specs.Checks.{checkWith}
 use Rattle.set.specs.Outcome.{held}
 use Rattle.set.proofs.Lengths.{with-passed}

@@ -1,6 +1,6 @@
 -- `files::a5_table_load` meets its contract. Assumes nothing.
 use borrow.Author.Needs.{needs}
-use Rattle.exports_tables.proofs.Tables.{gives-returns}
+use Rattle.exports_tables.proofs.Gives.{gives-returns}
 use Rattle.exports_tables.proofs.files.a5_table_load.Statement.{statement}
 use Rattle.exports_tables.proofs.files.a5_table_load.Tie as tie
 

@@ -3,7 +3,8 @@ use mathlib.Core.Path.{refl}
 use borrow.Author.Needs.{needs}
 use borrow.Author.Tests.{eq-eqb, ne-eqb}
 use Rattle.border.proofs.Returns.{returns-refusal}
-use Rattle.exports_tables.proofs.Tables.{other-length, rows-of, gives-returns-of}
+use Rattle.border.proofs.Tables.{other-length, rows-of}
+use Rattle.exports_tables.proofs.Gives.{gives-returns-of}
 use Rattle.exports_tables.proofs.files.a5_table_save.Statement.{statement}
 use Rattle.exports_tables.proofs.files.a5_table_save.Tie as tie
 

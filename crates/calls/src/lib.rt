@@ -1,0 +1,214 @@
+// Forward, inverse, place and unplace on a set, with the built-in table. A call checks its arguments, works its answer out,
+// looks at that, and only then writes the empty slots that it used.
+use answer::Check;
+use coordinates::conversions::FaceAnswer;
+use coordinates::conversions::LonLatAnswer;
+use coordinates::conversions::SphericalAnswer;
+use coordinates::conversions::check_face;
+use coordinates::conversions::check_lon_lat;
+use coordinates::conversions::check_spherical;
+use coordinates::coords::Face;
+use coordinates::lonlat::LonLat;
+use coordinates::spherical::Spherical;
+use dodecahedron::place::PlaceAnswer;
+use dodecahedron::projection::forward_core;
+use dodecahedron::projection::inverse_core;
+use dodecahedron::work::FaceWork;
+use dodecahedron::work::LonLatWork;
+use dodecahedron::work::PlaceWork;
+use dodecahedron::work::SphericalWork;
+use dodecahedron::work::finish_face;
+use dodecahedron::work::finish_lon_lat;
+use dodecahedron::work::finish_place;
+use dodecahedron::work::finish_spherical;
+use nearest::find_nearest_origin;
+use origin::origin::get_origin;
+use set::checks::check_call;
+use set::checks::first_refusal;
+use set::set::check_set;
+use stores::used::write_used;
+use transforms::coordinate_transforms::from_lon_lat;
+ghost use mathlib.Core.Path.{_≡_};
+ghost use Rattle.arithmetic.specs.Arith.{ieee};
+ghost use Rattle.coordinates.specs.Conversions.{givenFace, givenSpherical, givenLonLat};
+ghost use Rattle.origin.specs.Origins.{ORIGINS};
+ghost use Rattle.set.specs.Outcome.{lent, Leaves};
+ghost use Rattle.dodecahedron.specs.Place.{givenPlace};
+ghost use Rattle.dodecahedron.specs.Work.{givenFaceWork, givenSphericalWork, givenPlaceWork, givenLonLatWork};
+ghost use Rattle.dodecahedron.specs.Calls.{forwardGiven, inverseGiven, placeGiven, unplaceGiven, forwardOn, inverseOn, placeOn, unplaceOn};
+
+// What forward gives, with nothing written yet.
+fn forward_work(
+    frame: &[f64],
+    face_store: &[f64],
+    sphere_store: &[f64],
+    spherical: Spherical,
+    origin: u8,
+) -> FaceWork
+    ensures { λ r. ⌜ givenFaceWork r ≡ forwardGiven ieee ORIGINS (lent frame «face_store» «sphere_store» .entry) spherical origin ⌝ }
+{
+    let set = check_call(frame, face_store, sphere_store, origin);
+    let check = first_refusal(set, check_spherical(spherical));
+    if let Check::Refused(n) = check {
+        return FaceWork::Refused(n);
+    }
+    finish_face(forward_core(
+        frame,
+        face_store,
+        sphere_store,
+        spherical,
+        get_origin(origin),
+        origin,
+    ))
+}
+
+// A position on the sphere to a point on an origin's face.
+pub fn forward(
+    frame: &[f64],
+    face_store: &mut [f64],
+    sphere_store: &mut [f64],
+    spherical: Spherical,
+    origin: u8,
+) -> FaceAnswer
+    ensures { λ r. ⌜ Leaves (lent frame «face_store» «sphere_store») (givenFace r) (λ s. forwardOn ieee ORIGINS s spherical origin) ⌝ }
+{
+    match forward_work(frame, face_store, sphere_store, spherical, origin) {
+        FaceWork::Refused(n) => FaceAnswer::Refused(n),
+        FaceWork::Done(done) => {
+            let answer = done.answer;
+            write_used(frame, face_store, sphere_store, done.used);
+            FaceAnswer::Answered(answer)
+        }
+    }
+}
+
+// What inverse gives, with nothing written yet.
+fn inverse_work(
+    frame: &[f64],
+    face_store: &[f64],
+    sphere_store: &[f64],
+    face: Face,
+    origin: u8,
+) -> SphericalWork
+    ensures { λ r. ⌜ givenSphericalWork r ≡ inverseGiven ieee ORIGINS (lent frame «face_store» «sphere_store» .entry) face origin ⌝ }
+{
+    let set = check_call(frame, face_store, sphere_store, origin);
+    let check = first_refusal(set, check_face(face));
+    if let Check::Refused(n) = check {
+        return SphericalWork::Refused(n);
+    }
+    finish_spherical(inverse_core(
+        frame,
+        face_store,
+        sphere_store,
+        face,
+        get_origin(origin),
+        origin,
+    ))
+}
+
+// A point on an origin's face back to a position on the sphere.
+pub fn inverse(
+    frame: &[f64],
+    face_store: &mut [f64],
+    sphere_store: &mut [f64],
+    face: Face,
+    origin: u8,
+) -> SphericalAnswer
+    ensures { λ r. ⌜ Leaves (lent frame «face_store» «sphere_store») (givenSpherical r) (λ s. inverseOn ieee ORIGINS s face origin) ⌝ }
+{
+    match inverse_work(frame, face_store, sphere_store, face, origin) {
+        SphericalWork::Refused(n) => SphericalAnswer::Refused(n),
+        SphericalWork::Done(done) => {
+            let answer = done.answer;
+            write_used(frame, face_store, sphere_store, done.used);
+            SphericalAnswer::Answered(answer)
+        }
+    }
+}
+
+// What place gives, with nothing written yet.
+fn place_work(frame: &[f64], face_store: &[f64], sphere_store: &[f64], lonlat: LonLat) -> PlaceWork
+    ensures { λ r. ⌜ givenPlaceWork r ≡ placeGiven ieee ORIGINS (lent frame «face_store» «sphere_store» .entry) lonlat ⌝ }
+{
+    let set = check_set(frame, face_store, sphere_store);
+    let check = first_refusal(set, check_lon_lat(lonlat));
+    if let Check::Refused(n) = check {
+        return PlaceWork::Refused(n);
+    }
+    let spherical = from_lon_lat(lonlat);
+    let origin = find_nearest_origin(spherical);
+    let core = forward_core(
+        frame,
+        face_store,
+        sphere_store,
+        spherical,
+        get_origin(origin),
+        origin,
+    );
+    finish_place(origin, core)
+}
+
+// A longitude and a latitude to a point on the nearest origin's face.
+pub fn place(
+    frame: &[f64],
+    face_store: &mut [f64],
+    sphere_store: &mut [f64],
+    lonlat: LonLat,
+) -> PlaceAnswer
+    ensures { λ r. ⌜ Leaves (lent frame «face_store» «sphere_store») (givenPlace r) (λ s. placeOn ieee ORIGINS s lonlat) ⌝ }
+{
+    match place_work(frame, face_store, sphere_store, lonlat) {
+        PlaceWork::Refused(n) => PlaceAnswer::Refused(n),
+        PlaceWork::Done(done) => {
+            let answer = done.answer;
+            write_used(frame, face_store, sphere_store, done.used);
+            PlaceAnswer::Answered(answer)
+        }
+    }
+}
+
+// What unplace gives, with nothing written yet.
+fn unplace_work(
+    frame: &[f64],
+    face_store: &[f64],
+    sphere_store: &[f64],
+    face: Face,
+    origin: u8,
+) -> LonLatWork
+    ensures { λ r. ⌜ givenLonLatWork r ≡ unplaceGiven ieee ORIGINS (lent frame «face_store» «sphere_store» .entry) face origin ⌝ }
+{
+    let set = check_call(frame, face_store, sphere_store, origin);
+    let check = first_refusal(set, check_face(face));
+    if let Check::Refused(n) = check {
+        return LonLatWork::Refused(n);
+    }
+    finish_lon_lat(inverse_core(
+        frame,
+        face_store,
+        sphere_store,
+        face,
+        get_origin(origin),
+        origin,
+    ))
+}
+
+// A point on an origin's face back to a longitude and a latitude.
+pub fn unplace(
+    frame: &[f64],
+    face_store: &mut [f64],
+    sphere_store: &mut [f64],
+    face: Face,
+    origin: u8,
+) -> LonLatAnswer
+    ensures { λ r. ⌜ Leaves (lent frame «face_store» «sphere_store») (givenLonLat r) (λ s. unplaceOn ieee ORIGINS s face origin) ⌝ }
+{
+    match unplace_work(frame, face_store, sphere_store, face, origin) {
+        LonLatWork::Refused(n) => LonLatAnswer::Refused(n),
+        LonLatWork::Done(done) => {
+            let answer = done.answer;
+            write_used(frame, face_store, sphere_store, done.used);
+            LonLatAnswer::Answered(answer)
+        }
+    }
+}

@@ -1,0 +1,6 @@
+-- Laws behind the proofs of the functions.
+pub mod LeastOf
+pub mod Axes
+pub mod AxisSines
+pub mod Shared
+pub mod LowestNearest

@@ -1,0 +1,3 @@
+-- What the proofs of this crate share.
+pub mod Number
+pub mod Lines

@@ -1,0 +1,3 @@
+-- Paper 13, "The as-run sheet": the page. Definitions only.
+pub mod Letters
+pub mod Page

@@ -1,0 +1,2 @@
+-- geometry/spherical_polygon.rs. Definitions only.
+pub mod SphericalPolygon
