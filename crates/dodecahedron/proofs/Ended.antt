@@ -27,7 +27,7 @@ use Rattle.stores.proofs.Within.{written-there}
 use Rattle.triangles.specs.Taken.{usedFor}
 use Rattle.triangles.proofs.Within.{answered-same, used-within}
 use Rattle.dodecahedron.specs.Place.{finitePlace}
-use Rattle.dodecahedron.specs.Work.{Work, finish}
+use Rattle.dodecahedron.specs.Work.{Work, usedOf, setUsed, setUsedIfThere, finish}
 use Rattle.dodecahedron.specs.Projection.{forwardCore, inverseCore}
 use Rattle.dodecahedron.specs.Calls.{forwardGiven, inverseGiven, placeGiven, unplaceGiven}
 use Rattle.dodecahedron.specs.declared.place.Place.{Place}
@@ -132,3 +132,18 @@ module _ (A : Arith) (table : List Float) (s : Set) where
         let worked = finish-used (forwardCore A (originAt table o) s p o) (finitePlace o) w (tests .1) in
         let used = forward-used A (originAt table o) s o p (worked .0) (worked .1) ∙ ap answered (worked .2) in
         there o _ (w .used) (passes .0) (nearest-is A table p .origin) used
+
+-- ---- how a call ends
+
+module _ {X : Type 0} (A : Arith) (s : Set) where
+  -- where the slots used are among the set's, they are written
+  used-there : (g : Given (Work X)) → ((w : Work X) → g ≡ answered w → writtenIfThere A s (w .used) ≡ usedWritten A s (w .used))
+      → setUsedIfThere A s (usedOf g) ≡ setUsed A s (usedOf g)
+  used-there (refused n) there = refl
+  used-there (answered w) there = there w refl
+
+  -- the same for what the code has worked out, where it is what the call gives
+  pub left-there : (work g : Given (Work X)) → work ≡ g
+      → ((w : Work X) → g ≡ answered w → writtenIfThere A s (w .used) ≡ usedWritten A s (w .used))
+      → setUsedIfThere A s (usedOf work) ≡ setUsed A s (usedOf g)
+  left-there work g worked there = rw worked (used-there g there)

@@ -7,7 +7,7 @@ use Rattle.coordinates.specs.declared.lonlat.LonLat.{LonLat}
 use Rattle.coordinates.specs.declared.spherical.Spherical.{Spherical}
 use Rattle.set.specs.Set.{Set}
 use Rattle.set.specs.Outcome.{Outcome}
-use Rattle.stores.specs.Used.{usedWritten}
+use Rattle.stores.specs.Used.{usedWritten, writtenIfThere}
 use Rattle.stores.specs.declared.used.Used.{Used}
 use Rattle.dodecahedron.specs.declared.place.Place.{Place}
 use Rattle.dodecahedron.specs.declared.work.FaceWork.{FaceWork}
@@ -42,6 +42,14 @@ module _ (A : Arith) (s : Set) where
 
   abbrev pub outcome : {X : Type 0} → Given (Work X) → Outcome X
   outcome g = record { answer = answerOf g; set = setUsed (usedOf g) }
+
+  -- the same of any work on any set: slots that the set has not are not written
+  abbrev pub setUsedIfThere : Given Used → Set
+  setUsedIfThere (refused n) = s
+  setUsedIfThere (answered u) = writtenIfThere A s u
+
+  abbrev pub outcomeIfThere : {X : Type 0} → Given (Work X) → Outcome X
+  outcomeIfThere g = record { answer = answerOf g; set = setUsedIfThere (usedOf g) }
 
 -- what a call worked out, and then its final answer f, for which 9 is tried; the slots that it uses go along
 unfoldable pub finish : {X Y : Type 0} → Given (Work X) → (X → Given Y) → Given (Work Y)

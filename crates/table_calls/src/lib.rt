@@ -10,6 +10,10 @@ use coordinates::conversions::check_spherical;
 use coordinates::coords::Face;
 use coordinates::lonlat::LonLat;
 use coordinates::spherical::Spherical;
+use dodecahedron::leave::leave_face;
+use dodecahedron::leave::leave_lon_lat;
+use dodecahedron::leave::leave_place;
+use dodecahedron::leave::leave_spherical;
 use dodecahedron::place::PlaceAnswer;
 use dodecahedron::projection::forward_core;
 use dodecahedron::projection::inverse_core;
@@ -26,7 +30,6 @@ use origin::table::origin_in;
 use set::checks::check_origin;
 use set::checks::check_with;
 use set::checks::first_refusal;
-use stores::used::write_used;
 use transforms::coordinate_transforms::from_lon_lat;
 ghost use mathlib.Core.Path.{_≡_};
 ghost use Rattle.answer.specs.Given.{andThen};
@@ -92,14 +95,8 @@ pub fn forward_with(
 ) -> FaceAnswer
     ensures { λ r. ⌜ Leaves (lent frame «face_store» «sphere_store») (givenFace r) (λ s. forwardOn ieee table s spherical origin) ⌝ }
 {
-    match forward_work_with(&table, frame, face_store, sphere_store, spherical, origin) {
-        FaceWork::Refused(n) => FaceAnswer::Refused(n),
-        FaceWork::Done(done) => {
-            let answer = done.answer;
-            write_used(frame, face_store, sphere_store, done.used);
-            FaceAnswer::Answered(answer)
-        }
-    }
+    let work = forward_work_with(&table, frame, face_store, sphere_store, spherical, origin);
+    leave_face(frame, face_store, sphere_store, work)
 }
 
 // What inverse gives, with nothing written yet.
@@ -139,14 +136,8 @@ pub fn inverse_with(
 ) -> SphericalAnswer
     ensures { λ r. ⌜ Leaves (lent frame «face_store» «sphere_store») (givenSpherical r) (λ s. inverseOn ieee table s face origin) ⌝ }
 {
-    match inverse_work_with(&table, frame, face_store, sphere_store, face, origin) {
-        SphericalWork::Refused(n) => SphericalAnswer::Refused(n),
-        SphericalWork::Done(done) => {
-            let answer = done.answer;
-            write_used(frame, face_store, sphere_store, done.used);
-            SphericalAnswer::Answered(answer)
-        }
-    }
+    let work = inverse_work_with(&table, frame, face_store, sphere_store, face, origin);
+    leave_spherical(frame, face_store, sphere_store, work)
 }
 
 // What place gives, with nothing written yet.
@@ -187,14 +178,8 @@ pub fn place_with(
 ) -> PlaceAnswer
     ensures { λ r. ⌜ Leaves (lent frame «face_store» «sphere_store») (givenPlace r) (λ s. placeOn ieee table s lonlat) ⌝ }
 {
-    match place_work_with(&table, frame, face_store, sphere_store, lonlat) {
-        PlaceWork::Refused(n) => PlaceAnswer::Refused(n),
-        PlaceWork::Done(done) => {
-            let answer = done.answer;
-            write_used(frame, face_store, sphere_store, done.used);
-            PlaceAnswer::Answered(answer)
-        }
-    }
+    let work = place_work_with(&table, frame, face_store, sphere_store, lonlat);
+    leave_place(frame, face_store, sphere_store, work)
 }
 
 // What unplace gives, with nothing written yet.
@@ -234,12 +219,6 @@ pub fn unplace_with(
 ) -> LonLatAnswer
     ensures { λ r. ⌜ Leaves (lent frame «face_store» «sphere_store») (givenLonLat r) (λ s. unplaceOn ieee table s face origin) ⌝ }
 {
-    match unplace_work_with(&table, frame, face_store, sphere_store, face, origin) {
-        LonLatWork::Refused(n) => LonLatAnswer::Refused(n),
-        LonLatWork::Done(done) => {
-            let answer = done.answer;
-            write_used(frame, face_store, sphere_store, done.used);
-            LonLatAnswer::Answered(answer)
-        }
-    }
+    let work = unplace_work_with(&table, frame, face_store, sphere_store, face, origin);
+    leave_lon_lat(frame, face_store, sphere_store, work)
 }

@@ -1,41 +1,24 @@
--- `forward` meets its contract: a refusal leaves the set as it was, and an answer the slots used written. Assumes nothing.
-use mathlib.Core.Path.{sym, ap, _∙_}
+-- `forward` meets its contract: it ends as its kind of call does, on slots that are there. Assumes nothing.
+use mathlib.Core.Path.{ap, _∙_}
 use borrow.Author.Needs.{needs}
 use Rattle.arithmetic.specs.Arith.{ieee}
 use Rattle.origin.specs.Origins.{ORIGINS}
-use Rattle.dodecahedron.specs.Work.{givenFaceWork}
-use Rattle.dodecahedron.proofs.Ended.{forward-there}
+use Rattle.dodecahedron.specs.Work.{answerOf}
+use Rattle.dodecahedron.proofs.Ended.{forward-there, left-there}
 use Rattle.calls.proofs.forward.Statement.{statement}
 use Rattle.calls.proofs.forward.Tie as tie
 
 returns : tie.Need-returns
 returns c =
-    let work = c .before .before .before in
-    let refused = sym (work .forward-work .ensures) ∙ ap givenFaceWork (c .before .n .given .1) in
-    record { answer = rw refused; left = rw refused }
-
-returns-2 : tie.Need-returns-2
-returns-2 c =
     let stores = c .before .before in
-    let written = stores .before .before in
-    let lent = written .before .before in
-    let done = lent .before .before .before in
-    let work = done .before .before in
-    let answered = sym (work .forward-work .ensures) ∙ ap givenFaceWork (done .done .given .1) in
-    let slots-written = written .write-used .ensures ∙ forward-there ieee ORIGINS _ _ _ _ answered in
-    record { answer = rw answered; left = rw answered slots-written }
+    let ended = stores .before .before in
+    let work = ended .before .before .before in
+    let worked = work .forward-work .ensures in
+    let leaves = ended .leave-face .ensures in
+    record {
+      answer = leaves .answer ∙ ap answerOf worked;
+      left = leaves .left ∙ left-there ieee _ _ _ worked (forward-there ieee ORIGINS _ _ _);
+    }
 
 pub forward-spec : {M : Type 1} → statement M
-forward-spec =
-    tie.close
-    (tie.spec
-    (λ c κs. search needs)
-    (λ c. search needs)
-    (λ c. search needs)
-    (λ c κs. search needs)
-    (λ c. search needs)
-    (λ c. search needs)
-    returns
-    (λ c. search needs)
-    (λ c. search needs)
-    returns-2)
+forward-spec = tie.close (tie.spec (λ c κs. search needs) (λ c κs. search needs) (λ c. search needs) (λ c. search needs) returns)
