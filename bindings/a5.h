@@ -203,6 +203,13 @@ uint8_t a5_place_with(const double *table, size_t table_length, const double *fr
                       size_t face_length, double *sphere, size_t sphere_length, double longitude, double latitude,
                       uint8_t *id, double to[2]);
 
+/* Place a list with a table: as a5_place_with would one by one. Refusals of the list itself, which leave every result and the
+ * set: 20, 1, 2, 3, 21, 22, 14. */
+uint8_t a5_place_list_with(const double *table, size_t table_length, const double *frame, size_t frame_length,
+                           double *face, size_t face_length, double *sphere, size_t sphere_length,
+                           const a5_position *positions, size_t positions_length, a5_result *results,
+                           size_t results_length);
+
 /* Unplace with a table. Refusals: 20, 1, 2, 3, 21, 22, 4, 5, 6, 8, 19, 9. */
 uint8_t a5_unplace_with(const double *table, size_t table_length, const double *frame, size_t frame_length, double *face,
                         size_t face_length, double *sphere, size_t sphere_length, double x, double y, uint8_t origin,

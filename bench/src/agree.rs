@@ -85,14 +85,16 @@ fn check_form(mut ours: Ours, degrees: &[[f64; 2]], radians: &[[f64; 2]]) {
     }
 }
 
-// A list in one call, and one position after another.
+// A list in one call, with and without a table, and one position after another.
 pub fn check_list(positions: &[LonLat]) {
-    let mut results = vec![PlaceResult::default(); positions.len()];
-    let mut theirs = results.clone();
-    Ours::new().place_list(positions, &mut results);
+    let mut theirs = vec![PlaceResult::default(); positions.len()];
     Stepped::new().place_each(positions, &mut theirs);
-    for (ours, rust) in results.iter().zip(&theirs) {
-        assert_eq!((ours.refusal, ours.origin), (0, rust.origin), "a list");
-        same("a list", &[ours.x, ours.y], &[rust.x, rust.y]);
+    for mut form in [Ours::new(), Ours::with_table()] {
+        let mut results = vec![PlaceResult::default(); positions.len()];
+        form.place_list(positions, &mut results);
+        for (ours, rust) in results.iter().zip(&theirs) {
+            assert_eq!((ours.refusal, ours.origin), (0, rust.origin), "a list");
+            same("a list", &[ours.x, ours.y], &[rust.x, rust.y]);
+        }
     }
 }

@@ -21,7 +21,15 @@ pub const LIST: usize = 300;
 // the library, without a table and with the built-in rows as a table, and the Rust in both forms
 const FORMS: usize = 4;
 // the calls that take a table
-const WITH: [&str; 5] = ["open", "nearest", "forward", "place", "unplace"];
+const WITH: [&str; 7] = [
+    "open",
+    "nearest",
+    "forward",
+    "place",
+    "list",
+    "list singly",
+    "unplace",
+];
 
 const CALLS: [&str; 14] = [
     "open",

@@ -1,6 +1,6 @@
 /* Tables, tried on the linked library: the built-in rows as a table give what the calls without one give; a table file that
  * examples/turned_table wrote places and unplaces; each refusal in its order, with everything lent left as it was; another table
- * than the set was opened with. Its one argument is the file. Prints what failed and then one line. */
+ * than the set was opened with; a list with the table against place one by one. Its one argument is the file. Prints what failed and then one line. */
 #include "../a5.h"
 #include "check.h"
 #include <math.h>
@@ -58,7 +58,11 @@ static int load(const char *name, double *to) {
 static void refused(const double *rows, size_t length, uint8_t number, const char *name) {
     uint8_t id = 77;
     double to[2] = {-1.5, 2.5};
+    a5_position position = {16.37, 48.2};
+    a5_result result = {77, 77, -1.5, 2.5};
     before = set;
+    CHECK(a5_place_list_with(rows, length, LENT(&set), &position, 1, &result, 1) == number, name);
+    CHECK(result.refusal == 77 && result.origin == 77 && result.x == -1.5 && result.y == 2.5, name);
     CHECK(a5_open_with(rows, length, LENT(&set)) == number, name);
     CHECK(a5_forward_with(rows, length, LENT(&set), 1, 1, 0, to) == number, name);
     CHECK(a5_inverse_with(rows, length, LENT(&set), 0.1, 0.1, 0, to) == number, name);
@@ -169,6 +173,78 @@ static void turned(void) {
     CHECK(memcmp(&set, &before, sizeof set) == 0, "8 leaves the set");
 }
 
+/* A list with the turned table is place with it, one by one: results and the whole set. */
+static void list(void) {
+    static a5_position positions[300];
+    static a5_result results[301];
+    size_t refused_ones = 0;
+    for (int k = 0; k < 300; k++)
+        positions[k] = (a5_position){-179 + 1.19 * k, k % 10 == 3 ? 90.5 : k % 50 == 7 ? (double)NAN : 89 * sin(k)};
+    CHECK(a5_open_with(table, A5_TABLE, LENT(&set)) == A5_ANSWERED, "open");
+    other = set;
+    memset(results, 0xa5, sizeof results);
+    a5_result behind = results[300];
+    CHECK(a5_place_list_with(table, A5_TABLE, LENT(&set), positions, 300, results, 300) == A5_ANSWERED, "list");
+    for (int k = 0; k < 300; k++) {
+        uint8_t id = 0;
+        double to[2] = {0.0, 0.0};
+        uint8_t status = a5_place_with(table, A5_TABLE, LENT(&other), positions[k].longitude, positions[k].latitude, &id, to);
+        CHECK(results[k].refusal == status && results[k].origin == id, "as place");
+        CHECK(memcmp(&results[k].x, &to[0], sizeof *to) == 0 && memcmp(&results[k].y, &to[1], sizeof *to) == 0, "as place");
+        refused_ones += status != A5_ANSWERED;
+    }
+    CHECK(refused_ones == 36, "refused positions among the others");
+    CHECK(memcmp(&set, &other, sizeof set) == 0, "the whole set");
+    CHECK(memcmp(&results[300], &behind, sizeof behind) == 0, "behind the results");
+    /* another table than the set was opened with: each result has 8 */
+    CHECK(a5_open_with(table, A5_TABLE, LENT(&set)) == A5_ANSWERED, "open again");
+    before = set;
+    CHECK(a5_place_list_with(built_in, A5_TABLE, LENT(&set), positions, 3, results, 3) == A5_ANSWERED, "another table");
+    for (int k = 0; k < 3; k++)
+        CHECK(results[k].refusal == A5_REFUSED_NO_VERTEX && results[k].origin == 0 && results[k].x == 0.0, "8 in each");
+    CHECK(memcmp(&set, &before, sizeof set) == 0, "8 leaves the set");
+}
+
+/* The refusals of a list itself: 20, 1, 2, 3, 21, 22, 14, each where all that come after it apply too. */
+static void list_refusals(void) {
+    a5_position positions[2] = {{0.0, 0.0}, {10.0, 20.0}};
+    a5_result results[3], kept[3];
+    double faulty[A5_TABLE + 1] = {0}, off[A5_TABLE];
+    memcpy(faulty, table, sizeof table);
+    memcpy(off, table, sizeof table);
+    off[2] = 1;
+    memcpy(faulty, off, sizeof off);
+    faulty[A5_TABLE - 1] = NAN;
+    const struct {
+        const double *rows;
+        size_t length, lengths[3];
+        uint8_t status;
+    } cases[] = {
+        {faulty, A5_TABLE + 1, {A5_FRAME - 1, A5_FACE_STORE - 1, A5_SPHERE_STORE - 1}, A5_REFUSED_TABLE_FILE},
+        {faulty, A5_TABLE - 1, {A5_FRAME, A5_FACE_STORE, A5_SPHERE_STORE}, A5_REFUSED_TABLE_FILE},
+        {faulty, 0, {A5_FRAME, A5_FACE_STORE, A5_SPHERE_STORE}, A5_REFUSED_TABLE_FILE},
+        {faulty, A5_TABLE, {A5_FRAME - 1, A5_FACE_STORE - 1, A5_SPHERE_STORE - 1}, A5_REFUSED_FRAME_LENGTH},
+        {faulty, A5_TABLE, {A5_FRAME, A5_FACE_STORE - 1, A5_SPHERE_STORE - 1}, A5_REFUSED_FACE_STORE_LENGTH},
+        {faulty, A5_TABLE, {A5_FRAME, A5_FACE_STORE, A5_SPHERE_STORE - 1}, A5_REFUSED_SPHERE_STORE_LENGTH},
+        {faulty, A5_TABLE, {A5_FRAME, A5_FACE_STORE, A5_SPHERE_STORE}, A5_REFUSED_TABLE_NUMBER},
+        {off, A5_TABLE, {A5_FRAME, A5_FACE_STORE, A5_SPHERE_STORE}, A5_REFUSED_TABLE_QUATERNION},
+        {table, A5_TABLE, {A5_FRAME, A5_FACE_STORE, A5_SPHERE_STORE}, A5_REFUSED_RESULT_COUNT},
+    };
+    memset(results, 0xa5, sizeof results);
+    memcpy(kept, results, sizeof results);
+    before = set;
+    for (size_t i = 0; i < sizeof cases / sizeof *cases; i++) {
+        const size_t *l = cases[i].lengths;
+        uint8_t status = a5_place_list_with(cases[i].rows, cases[i].length, set.frame, l[0], set.face, l[1], set.sphere, l[2],
+                                            positions, 2, results, 3);
+        CHECK(status == cases[i].status, "the refusals of a list in their order");
+    }
+    CHECK(a5_place_list_with(table, A5_TABLE, LENT(&set), positions, 2, results, 1) == A5_REFUSED_RESULT_COUNT, "one result");
+    CHECK(a5_place_list_with(table, A5_TABLE, LENT(&set), positions, 0, results, 0) == A5_ANSWERED, "an empty list");
+    CHECK(a5_place_list_with(off, A5_TABLE, LENT(&set), positions, 0, results, 0) == A5_REFUSED_TABLE_QUATERNION, "empty, 22");
+    CHECK(memcmp(results, kept, sizeof results) == 0 && memcmp(&set, &before, sizeof set) == 0, "everything as it was");
+}
+
 static void files(void) {
     uint8_t bytes[A5_TABLE_FILE + 1], again[A5_TABLE_FILE];
     double rows[A5_TABLE];
@@ -206,6 +282,8 @@ int main(int count, char **words) {
     turned();
     CHECK(a5_open_with(table, A5_TABLE, LENT(&set)) == A5_ANSWERED, "open");
     refusals();
+    list();
+    list_refusals();
     frames();
     files();
     return finished("bindings/c/table_test");

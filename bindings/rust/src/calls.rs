@@ -296,6 +296,35 @@ pub fn place_with(
     })
 }
 
+/// [`place_list`] with the origins of a table.
+#[inline]
+pub fn place_list_with(
+    table: &[f64],
+    frame: &[f64],
+    face: &mut [f64],
+    sphere: &mut [f64],
+    positions: &[LonLat],
+    results: &mut [PlaceResult],
+) -> Result<(), Refusal> {
+    let status = unsafe {
+        raw::a5_place_list_with(
+            table.as_ptr(),
+            table.len(),
+            frame.as_ptr(),
+            frame.len(),
+            face.as_mut_ptr(),
+            face.len(),
+            sphere.as_mut_ptr(),
+            sphere.len(),
+            positions.as_ptr().cast(),
+            positions.len(),
+            results.as_mut_ptr().cast(),
+            results.len(),
+        )
+    };
+    given(status, ())
+}
+
 /// [`unplace`] with the origins of a table.
 #[inline]
 pub fn unplace_with(

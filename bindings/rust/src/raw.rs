@@ -80,6 +80,20 @@ extern "C" {
         results: *mut Placed,
         results_length: usize,
     ) -> u8;
+    pub fn a5_place_list_with(
+        table: *const f64,
+        table_length: usize,
+        frame: *const f64,
+        frame_length: usize,
+        face: *mut f64,
+        face_length: usize,
+        sphere: *mut f64,
+        sphere_length: usize,
+        positions: *const [f64; 2],
+        positions_length: usize,
+        results: *mut Placed,
+        results_length: usize,
+    ) -> u8;
     pub fn a5_open_with(
         table: *const f64,
         table_length: usize,

@@ -117,18 +117,13 @@ impl Set {
         positions: &[LonLat],
         results: &mut [PlaceResult],
     ) -> Result<(), Refusal> {
-        if self.table.is_none() {
-            let (frame, face, sphere) = (&self.frame, &mut self.face, &mut self.sphere);
-            return calls::place_list(frame, face, sphere, positions, results);
+        let (frame, face, sphere) = (&self.frame, &mut self.face, &mut self.sphere);
+        match &self.table {
+            None => calls::place_list(frame, face, sphere, positions, results),
+            Some(t) => {
+                calls::place_list_with(t.numbers(), frame, face, sphere, positions, results)
+            }
         }
-        // with a table the positions are placed singly, which is what a list is
-        if positions.len() != results.len() {
-            return Err(Refusal::ResultCount);
-        }
-        for (position, result) in positions.iter().zip(results) {
-            *result = PlaceResult::of(self.place(*position));
-        }
-        Ok(())
     }
 
     /// The longitude and latitude of a point on the face of an origin.

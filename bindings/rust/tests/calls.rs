@@ -130,8 +130,7 @@ fn open_writes_the_frame_and_clears_the_stores() {
 #[test]
 fn refusals_have_the_numbers_of_the_table() {
     let numbers = Refusal::ALL.map(Refusal::number);
-    assert_eq!(numbers[..13], [1, 2, 3, 4, 5, 6, 7, 8, 9, 10, 11, 12, 13]);
-    assert_eq!(numbers[13..], [14, 17, 18, 19, 20, 21, 22, 24, 25, 26]);
+    assert!(numbers.into_iter().eq(1..=26));
     for number in 0..=255 {
         let refusal = Refusal::ALL.into_iter().find(|r| *r as u8 == number);
         assert_eq!(Refusal::from_number(number), refusal, "{number}");

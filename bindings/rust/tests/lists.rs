@@ -1,5 +1,5 @@
 //! Lists of positions, tried on the linked library: against place one by one, refused positions among them, an empty list,
-//! and the refusals of the list itself.
+//! and the refusals of the list itself; all of it with a table too.
 
 use a5_faces::{calls, LonLat, Place, PlaceResult, Refusal, Set, Table};
 use a5_faces::{FACE_STORE, FRAME, SPHERE_STORE};
@@ -79,6 +79,68 @@ fn a_list_on_a_set_with_a_table_is_place_one_by_one() {
     let mut too_few = vec![PlaceResult::default(); 99];
     let refused = together.place_list_into(&list, &mut too_few);
     assert_eq!(refused, Err(Refusal::ResultCount));
+    assert_eq!(together.place_list(&[]), []);
+    assert_eq!(bits(&together), bits(&singly));
+}
+
+// 20, 1, 2, 3, 21, 22, 14, each where all that come after it apply too.
+#[test]
+fn a_refused_list_with_a_table_changes_nothing() {
+    let list = positions(20);
+    let opened = Set::new_with(half_turned()).unwrap();
+    let [frame, face, sphere] = opened.buffers();
+    let sound = half_turned();
+    let mut off = *sound.numbers();
+    off[2] = 1.0;
+    let mut faulty = off;
+    faulty[83] = f64::NAN;
+    let held = PlaceResult {
+        refusal: 77,
+        ..PlaceResult::default()
+    };
+    let long = [&faulty[..], &[0.5]].concat();
+    for (table, short, refusal) in [
+        (&long[..], [1, 1, 1], Refusal::TableFile),
+        (&faulty[..83], [1, 1, 1], Refusal::TableFile),
+        (&[], [0, 0, 0], Refusal::TableFile),
+        (&faulty, [1, 1, 1], Refusal::FrameLength),
+        (&faulty, [0, 1, 1], Refusal::FaceStoreLength),
+        (&faulty, [0, 0, 1], Refusal::SphereStoreLength),
+        (&faulty, [0, 0, 0], Refusal::TableNumber),
+        (&off, [0, 0, 0], Refusal::TableQuaternion),
+        (&sound.numbers()[..], [0, 0, 0], Refusal::ResultCount),
+    ] {
+        let frame = &frame[..FRAME - short[0]];
+        let mut face = face[..FACE_STORE - short[1]].to_vec();
+        let mut sphere = sphere[..SPHERE_STORE - short[2]].to_vec();
+        let before = (face.clone(), sphere.clone());
+        let mut filled = vec![held; 19];
+        let lent = (&mut face, &mut sphere);
+        let given = calls::place_list_with(table, frame, lent.0, lent.1, &list, &mut filled);
+        assert_eq!(given, Err(refusal));
+        assert_eq!((face, sphere), before);
+        assert!(filled.iter().all(|r| *r == held));
+    }
+}
+
+// Another table than the set was opened with: what an empty slot should hold is not in the frame, and each result says so.
+#[test]
+fn a_list_with_another_table() {
+    let list = &positions(20)[..3];
+    let set = Set::new_with(half_turned()).unwrap();
+    let [frame, face, sphere] = set.buffers().map(<[f64]>::to_vec);
+    let (mut face, mut sphere) = (face, sphere);
+    let mut results = vec![PlaceResult::default(); 3];
+    let own = Table::built_in();
+    let lent = (&mut face, &mut sphere);
+    let given = calls::place_list_with(own.numbers(), &frame, lent.0, lent.1, list, &mut results);
+    assert_eq!(given, Ok(()));
+    assert!(results.iter().any(|r| r.refusal != 0));
+    for (result, position) in results.iter().zip(list) {
+        let lent = (&mut face, &mut sphere);
+        let one = calls::place_with(own.numbers(), &frame, lent.0, lent.1, *position);
+        assert_eq!(result_bits(&result.given()), result_bits(&one));
+    }
 }
 
 #[test]

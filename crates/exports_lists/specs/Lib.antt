@@ -1,2 +1,2 @@
--- A list of positions as a C function: what it returns, and what it leaves. Definitions only.
+-- A list of positions as C functions: what it returns, and what it leaves. Definitions only.
 pub mod Lists

@@ -1,6 +1,6 @@
 // Radar lists in one go (document 02, Paper 1): every position of a list is placed, from first to last, and its result
 // filled. The work is done by functions on one position and on lengths; `place_list`, which is lent the positions and the
-// results, is a thin loop over them.
+// results, is a thin loop over them. Crate table_lists has the call with a table of origins.
 use answer::Check;
 use answer::Refusal;
 use coordinates::lonlat::LonLat;
@@ -26,7 +26,7 @@ pub struct PlaceResult {
 }
 
 // What place gave, as a result.
-fn result(given: PlaceAnswer) -> PlaceResult
+pub fn result(given: PlaceAnswer) -> PlaceResult
     ensures { λ r. ⌜ r ≡ resultOf (givenPlace given) ⌝ }
 {
     match given {
@@ -63,7 +63,7 @@ fn place_one(
 }
 
 // 14: there is a result for each position.
-fn check_counts(positions: usize, results: usize) -> Check
+pub fn check_counts(positions: usize, results: usize) -> Check
     ensures { λ r. ⌜ givenCheck r ≡ checkCounts positions results ⌝ }
 {
     if positions != results {
@@ -89,7 +89,7 @@ fn check_list(
 }
 
 // How many positions are placed: all of them, or none by a call that is refused.
-fn turns(check: Check, positions: usize) -> usize
+pub fn turns(check: Check, positions: usize) -> usize
     ensures { λ r. ⌜ r ≡ turnsOf (givenCheck check) positions ⌝ }
 {
     match check {

@@ -2,7 +2,7 @@
 
 use crate::outcome::{show, Outcome};
 
-pub const CALLS: [&str; 24] = [
+pub const CALLS: [&str; 25] = [
     "open",
     "forward",
     "inverse",
@@ -27,6 +27,7 @@ pub const CALLS: [&str; 24] = [
     "nearest_with",
     "table_load",
     "table_save",
+    "place_list_with",
 ];
 pub const OPEN: usize = 0;
 // the four calls on a set follow in the order of the enum
@@ -47,6 +48,7 @@ pub const FORWARD_WITH: usize = 17;
 pub const NEAREST_WITH: usize = 21;
 pub const TABLE_LOAD: usize = 22;
 pub const TABLE_SAVE: usize = 23;
+pub const PLACE_LIST_WITH: usize = 24;
 
 #[derive(Clone, Copy, PartialEq)]
 pub enum Where {

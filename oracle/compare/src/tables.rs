@@ -6,12 +6,15 @@ use crate::common::fields::{spherical, whole};
 use crate::common::refusals::{self, check, lengths, SPHERICAL_LIMITS};
 use crate::common::sizes::RIGHT;
 use crate::counts::{
-    Asked, Counts, Where, FORWARD_WITH, NEAREST_WITH, OPEN_WITH, TABLE_LOAD, TABLE_SAVE,
+    Asked, Counts, Where, FORWARD_WITH, NEAREST_WITH, OPEN_WITH, PLACE_LIST_WITH, TABLE_LOAD,
+    TABLE_SAVE,
 };
 use crate::differential::back;
 use crate::draw::Draw;
 use crate::foreign_sets;
 use crate::library::{of_bytes, Buffers, Library};
+use crate::list_oracle::place_list_with;
+use crate::lists;
 use crate::outcome::Outcome;
 use crate::set::Set;
 use crate::table_draw::{self, Rows};
@@ -149,6 +152,35 @@ impl Side {
     }
 }
 
+// A list of positions with so many results.
+type List = (Vec<[f64; 2]>, usize);
+
+impl Side {
+    fn place_list(
+        &mut self,
+        counts: &mut Counts,
+        table: &[f64],
+        (positions, results): &List,
+        lent: [usize; 3],
+    ) {
+        let (buffers, results) = (&mut self.buffers, *results);
+        let ours = self
+            .library
+            .place_list(buffers, Some(table), lent, positions, results);
+        let mut expected = vec![lists::LENT; results];
+        let set = &mut self.set;
+        let given = place_list_with(table, lent, positions, &mut expected, |x| {
+            calls::call_with(table, Place, set, RIGHT, x)
+        });
+        let rust = Outcome {
+            status: given.err().unwrap_or(0),
+            numbers: lists::numbers(lists::LENT, &expected),
+        };
+        let x = [&[whole(results)], positions.concat().as_slice()].concat();
+        self.compare(counts, PLACE_LIST_WITH, (&x, table, lent), &ours, &rust);
+    }
+}
+
 impl Tables {
     pub fn new(library: impl Fn(Where) -> Library) -> Tables {
         let side = |place| Side::new(place, library(place));
@@ -186,6 +218,24 @@ impl Tables {
             2 => table_draw::built_in(),
             _ => table_draw::lent(&mut draw.g, &self.own),
         }
+    }
+
+    // A list on the three sets in turn: newly opened with its own table, else with any.
+    fn list(&mut self, draw: &mut Draw, turn: u64) {
+        let table = match turn % 3 {
+            0 => self.own.clone(),
+            _ => self.table(draw),
+        };
+        let side = match turn % 3 {
+            0 => &mut self.opened,
+            1 => &mut self.kept,
+            _ => &mut self.foreign,
+        };
+        if turn % 3 == 0 {
+            side.lend(&self.newly);
+        }
+        let list = lists::any(draw, &side.set);
+        side.place_list(&mut self.counts, &table, &list, draw.lengths(10));
     }
 
     fn alone(&mut self, draw: &mut Draw) {
@@ -270,6 +320,7 @@ impl Tables {
             let (counts, asked) = (&mut self.counts, (call, &x[..]));
             let _ = self.opened.call(counts, &self.own, asked, RIGHT);
         }
+        self.list(draw, turn);
         self.alone(draw);
         self.files(draw);
     }

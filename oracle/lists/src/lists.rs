@@ -1,7 +1,7 @@
 // Document 02's Paper 1, under its words. Place is the caller's: the one on a set, or that of a projection which the Rust keeps.
 
 use crate::common::fields::of_whole;
-use crate::common::refusals::lengths;
+use crate::common::refusals::{lengths, table, table_length};
 
 // "A result is a refusal number (0 if answered), origin, x and y".
 #[derive(Clone, Copy)]
@@ -37,9 +37,32 @@ pub fn place_list(
     lent: [usize; 3],
     positions: &[[f64; 2]],
     results: &mut [Placed],
-    mut place: impl FnMut(&[f64; 2]) -> Result<Vec<f64>, u8>,
+    place: impl FnMut(&[f64; 2]) -> Result<Vec<f64>, u8>,
 ) -> Result<(), u8> {
     lengths(lent)?;
+    fill(positions, results, place)
+}
+
+// Paper 10: a table of another length gets 20 before anything else is tried, and 21 and 22 are tried "right after 3". Place is the
+// one with the table.
+pub fn place_list_with(
+    rows: &[f64],
+    lent: [usize; 3],
+    positions: &[[f64; 2]],
+    results: &mut [Placed],
+    place: impl FnMut(&[f64; 2]) -> Result<Vec<f64>, u8>,
+) -> Result<(), u8> {
+    table_length(rows.len())?;
+    lengths(lent)?;
+    table(rows)?;
+    fill(positions, results, place)
+}
+
+fn fill(
+    positions: &[[f64; 2]],
+    results: &mut [Placed],
+    mut place: impl FnMut(&[f64; 2]) -> Result<Vec<f64>, u8>,
+) -> Result<(), u8> {
     if positions.len() != results.len() {
         return Err(14);
     }

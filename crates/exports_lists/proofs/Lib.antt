@@ -1,0 +1,2 @@
+-- Laws behind the proofs of the C functions.
+pub mod TableLength
