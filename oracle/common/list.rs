@@ -23,7 +23,8 @@ impl List {
         List { bytes: Vec::new() }
     }
 
-    fn record(&mut self, number: u8, status: u8, arguments: &[f64], answers: &[f64]) {
+    // A status with answers: a result of a list has all of its fields, also where it is refused.
+    pub fn record(&mut self, number: u8, status: u8, arguments: &[f64], answers: &[f64]) {
         let counts = [arguments.len() as u8, answers.len() as u8];
         self.bytes.extend([number, status, counts[0], counts[1]]);
         for x in arguments {

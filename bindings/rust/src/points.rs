@@ -51,23 +51,6 @@ impl PlaceResult {
         let face = Face { x, y };
         crate::calls::given(self.refusal, Place { origin, face })
     }
-
-    /// A place, or a refusal, as a result.
-    #[inline]
-    pub fn of(given: Result<Place, Refusal>) -> PlaceResult {
-        match given {
-            Ok(Place { origin, face }) => PlaceResult {
-                refusal: 0,
-                origin,
-                x: face.x,
-                y: face.y,
-            },
-            Err(refusal) => PlaceResult {
-                refusal: refusal.number(),
-                ..PlaceResult::default()
-            },
-        }
-    }
 }
 
 /// The store that show looks at.

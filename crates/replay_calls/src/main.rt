@@ -2,19 +2,9 @@
 // of them the whole set is compared with what it should hold. oracle/README.md has the records.
 mod ask;
 mod lent;
-mod numbers;
-mod places;
 mod set_up;
 
-use crate::lent::OPEN;
-use crate::places::FACE_AT;
-use crate::places::FACE_STORE;
-use crate::places::FRAME;
-use crate::places::NO_SUCH_PLACE;
-use crate::places::NOTES;
-use crate::places::SPHERE_AT;
-use crate::places::SPHERE_STORE;
-use replay::numbers::unlike;
+use crate::set_up::NOTES;
 use replay::outcome::Outcome;
 use replay::outcome::refused;
 use replay::record;
@@ -22,20 +12,15 @@ use replay::record::Head;
 use replay::record::Next;
 use replay::report;
 use replay::tally;
-ghost use mathlib.Core.Path.{_≡_};
-ghost use Rattle.replay.specs.Alike.{AlikeFrom};
+use replay_sets::compare;
+use replay_sets::given::done;
+use replay_sets::places::FACE_STORE;
+use replay_sets::places::FRAME;
+use replay_sets::places::NO_SUCH_PLACE;
+use replay_sets::places::SPHERE_STORE;
 
 // The number that the comparisons of the set are counted under. No record has it.
 const BUFFERS: u8 = 7;
-
-// Status 0 without answers is all that a record other than a call is given.
-fn done(there: bool) -> Outcome {
-    if there {
-        refused(0)
-    } else {
-        refused(NO_SUCH_PLACE)
-    }
-}
 
 // A call on the first numbers of the three buffers, as many as are lent.
 fn call(
@@ -61,14 +46,6 @@ fn call(
     )
 }
 
-// What is noted before a call: what open should leave. Whether it should answer is the record's word.
-fn before_call(head: Head, notes: &mut [f64]) -> bool {
-    if head.number != OPEN || head.status > 0 {
-        return true;
-    }
-    set_up::opened(notes)
-}
-
 fn outcome(
     head: Head,
     frame: &mut [f64],
@@ -80,46 +57,10 @@ fn outcome(
     if head.number > BUFFERS {
         return done(set_up::record(head.number, frame, face, sphere, notes, words));
     }
-    if before_call(head, notes) {
+    if set_up::before_call(head, notes) {
         return call(head.number, frame, face, sphere, words);
     }
     refused(NO_SUCH_PLACE)
-}
-
-// How many numbers of the set are not as noted, in the first buffer where one is: none only where all are.
-fn wrong(frame: &[f64], face: &[f64], sphere: &[f64], notes: &[f64]) -> usize
-    ensures frame { λ r. ⌜ (r ≡ 0 → AlikeFrom (now (frame .entry)) (now (notes .entry)) 0) ⌝ }
-    ensures face { λ r. ⌜ (r ≡ 0 → AlikeFrom (now (face .entry)) (now (notes .entry)) 187) ⌝ }
-    ensures sphere { λ r. ⌜ (r ≡ 0 → AlikeFrom (now (sphere .entry)) (now (notes .entry)) 398) ⌝ }
-{
-    let in_frame = unlike(frame, notes, 0);
-    if in_frame > 0 {
-        return in_frame;
-    }
-    let in_face = unlike(face, notes, FACE_AT);
-    if in_face > 0 {
-        return in_face;
-    }
-    unlike(sphere, notes, SPHERE_AT)
-}
-
-// Counts whether the set is as noted. The stored answer is that no number is wrong.
-fn compare_set(names: &[u8], wrong: usize, compared: &mut [u64; 32], differ: &mut [u64; 32]) {
-    let words = [0u8; 96];
-    let head = Head {
-        number: BUFFERS,
-        status: 0,
-        arguments: 0,
-        answers: 1,
-    };
-    let given = Outcome {
-        status: 0,
-        count: 1,
-        first: wrong as u64,
-        second: 0,
-        third: 0,
-    };
-    tally::compare(names, head, &words, given, compared, differ);
 }
 
 // Reads one record and replays it. Answers whether there was one.
@@ -141,7 +82,8 @@ fn replay_next(
     let given = outcome(head, frame, face, sphere, notes, &words);
     tally::compare(names, head, &words, given, compared, differ);
     if head.number < BUFFERS {
-        compare_set(names, wrong(frame, face, sphere, notes), compared, differ);
+        let wrong = compare::wrong(frame, face, sphere, notes);
+        compare::count(names, BUFFERS, wrong, compared, differ);
     }
     true
 }

@@ -8,6 +8,7 @@ mod calls;
 mod common;
 mod foreign;
 mod inputs;
+mod notes;
 mod outside;
 mod refused;
 mod script;

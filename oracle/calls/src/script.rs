@@ -1,20 +1,14 @@
 // The list as it grows, beside the set that its calls are lent. The program that replays it has the set and notes: what the set
-// should hold, and after that the Rust's set with every slot filled. A place is counted over the three buffers, each with one
-// number more than a set has: what lies behind is looked at too.
+// should hold, and after that the Rust's set with every slot filled.
 
 use crate::calls::{self, Call};
 use crate::common::fields::{bits, whole};
 use crate::common::list::List;
 use crate::common::refusals::lengths;
-use crate::common::sizes::{
-    FACE_SLOTS, FACE_STORE, FACE_WIDTH, FRAME, RIGHT, SPHERE_SLOTS, SPHERE_STORE, SPHERE_WIDTH,
-};
+use crate::common::sizes::{FACE_SLOTS, FACE_WIDTH, RIGHT, SPHERE_SLOTS, SPHERE_WIDTH};
+use crate::notes::{self, DEFINED_AT, FACE_AT, SPHERE_AT};
 use crate::set::{new_projection, Set};
 use a5::projections::dodecahedron::DodecahedronProjection;
-
-const FACE_AT: usize = FRAME + 1;
-const SPHERE_AT: usize = FACE_AT + FACE_STORE + 1;
-const DEFINED_AT: usize = SPHERE_AT + SPHERE_STORE + 1;
 
 // The records' numbers, after those of the four calls. 7 is the program's count of compared buffers.
 const OPEN: u8 = 5;
@@ -51,14 +45,8 @@ impl Script {
         script
     }
 
-    // Numbers from a place on, three to a record; the last three may overlap those before.
     fn threes(&mut self, number: u8, place: usize, numbers: &[f64]) {
-        for start in (0..numbers.len()).step_by(3) {
-            let at = start.min(numbers.len() - 3);
-            let three = &numbers[at..at + 3];
-            let record = [&[whole(place + at)], three].concat();
-            self.list.answered(number, &record, &[]);
-        }
+        notes::threes(&mut self.list, number, place, numbers);
     }
 
     pub fn open(&mut self, lent: [usize; 3]) {
@@ -112,16 +100,7 @@ impl Script {
     // What the call has written. A slot that now holds the triangle that a newly opened set gets is told by its number.
     fn written(&mut self, before: &Set) {
         let after = self.set.clone();
-        let is_new = |width, from: &[f64], to: &[f64], slot: usize| {
-            let run = slot * width..(slot + 1) * width;
-            bits(&from[run.clone()]) != bits(&to[run])
-        };
-        let mut faces: Vec<usize> = (0..FACE_SLOTS)
-            .filter(|slot| is_new(FACE_WIDTH, &before.face, &after.face, *slot))
-            .collect();
-        let spheres: Vec<usize> = (0..SPHERE_SLOTS)
-            .filter(|slot| is_new(SPHERE_WIDTH, &before.sphere, &after.sphere, *slot))
-            .collect();
+        let (mut faces, spheres) = notes::written(before, &after);
         assert!(faces.len() <= 2 && spheres.len() <= 1);
         for slot in &faces {
             let defined = self.defined.face_slot(*slot).map(bits);
@@ -132,8 +111,7 @@ impl Script {
             if after.sphere_slot(slot).map(bits) == self.defined.sphere_slot(slot).map(bits) {
                 sphere = slot;
             } else {
-                let at = slot * SPHERE_WIDTH;
-                self.threes(NOTE, SPHERE_AT + at, &after.sphere[at..at + SPHERE_WIDTH]);
+                notes::sphere_slot(&mut self.list, NOTE, &after, slot);
             }
         }
         if !faces.is_empty() || sphere < SPHERE_SLOTS {

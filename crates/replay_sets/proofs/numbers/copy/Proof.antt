@@ -5,8 +5,8 @@ use Prim.Native.Nat.{_+_, _≤_, _-_}
 use native.Mathlib.Omega.{arith}
 use borrow.Author.Needs.{needs}
 use lib.ListN.{length, length-set}
-use Rattle.replay_calls.proofs.numbers.copy.Statement.{statement}
-use Rattle.replay_calls.proofs.numbers.copy.Tie as tie
+use Rattle.replay_sets.proofs.numbers.copy.Statement.{statement}
+use Rattle.replay_sets.proofs.numbers.copy.Tie as tie
 
 abbrev Inv-loop : tie.InvT-loop
 Inv-loop buffer₀ from to count i₀ buffer i =

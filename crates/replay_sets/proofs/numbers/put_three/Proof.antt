@@ -2,8 +2,8 @@
 use native.Mathlib.Omega.{arith}
 use borrow.Author.Needs.{needs}
 use lib.ListN.{length-set}
-use Rattle.replay_calls.proofs.numbers.put_three.Statement.{statement}
-use Rattle.replay_calls.proofs.numbers.put_three.Tie as tie
+use Rattle.replay_sets.proofs.numbers.put_three.Statement.{statement}
+use Rattle.replay_sets.proofs.numbers.put_three.Tie as tie
 
 mul-buffer : tie.Need-mul-buffer
 mul-buffer c =

@@ -5,8 +5,8 @@ use Prim.Native.Nat.{_+_, _≤_, _-_}
 use native.Mathlib.Omega.{arith}
 use borrow.Author.Needs.{needs}
 use lib.ListN.{length, length-set}
-use Rattle.replay_calls.proofs.numbers.fill.Statement.{statement}
-use Rattle.replay_calls.proofs.numbers.fill.Tie as tie
+use Rattle.replay_sets.proofs.numbers.fill.Statement.{statement}
+use Rattle.replay_sets.proofs.numbers.fill.Tie as tie
 
 abbrev Inv-loop : tie.InvT-loop
 Inv-loop buffer₀ at count x i₀ buffer i = (i ≤ count) × (at + count ≤ length buffer₀) × (length buffer ≡ length buffer₀)

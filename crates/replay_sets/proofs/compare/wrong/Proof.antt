@@ -1,8 +1,8 @@
--- `wrong` meets its contract. Assumes nothing.
+-- `compare::wrong` meets its contract. Assumes nothing.
 use native.Mathlib.Omega.{arith}
 use borrow.Author.Needs.{needs}
-use Rattle.replay_calls.proofs.wrong.Statement.{statement}
-use Rattle.replay_calls.proofs.wrong.Tie as tie
+use Rattle.replay_sets.proofs.compare.wrong.Statement.{statement}
+use Rattle.replay_sets.proofs.compare.wrong.Tie as tie
 
 returns-3 : tie.Need-returns-3
 returns-3 c =

@@ -1,0 +1,2 @@
+-- Laws behind the walk that lends local arrays.
+pub mod Cells
