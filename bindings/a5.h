@@ -5,20 +5,20 @@
  *
  * A call that can be refused returns A5_ANSWERED (0), or the number of its refusal. a5_box_new, a5_window_new and
  * a5_window_counts are never refused and return nothing; a5_window_kept, a5_sqrt and a5_sqrt_rounds return their number.
- * An answer goes to the memory that is lent for it (to, id, results, filled, part, box, grants, window, counts, page, table, bytes). A refused
- * call leaves everything lent as it was, bit for bit. Any number may be passed: what is outside the limits is refused,
+ * An answer goes to the memory that is lent for it (to, id, results, points, origin, filled, part, box, grants, window, counts,
+ * page, table, bytes). A refused call leaves everything lent as it was, bit for bit. Any number may be passed: what is outside the limits is refused,
  * and every call ends.
  *
  * A set is three buffers of double that the caller owns: the frame, the face store and the sphere store. It is lent to
  * each call, each buffer as a pointer and how many numbers there are. a5_open makes it ready; forward, inverse, place,
- * unplace and a list of places read it and fill slots of the stores, so that later calls are quicker. Their answers do not depend on
+ * unplace, a list of places and a region read it and fill slots of the stores, so that later calls are quicker. Their answers do not depend on
  * which calls came before, as long as nothing else writes to the set and each call has the table that the set was last
  * opened with: the functions without a table have the built-in one, as a5_open has. The library keeps nothing between
  * calls and allocates nothing.
  *
  * What the caller owes, since no function can check it:
  * - a pointer is not null, not even with length 0, and is aligned for what it points to;
- * - as many numbers stand there as the length says (two behind `to` and `part`, one behind `id` and `filled`, twelve
+ * - as many numbers stand there as the length says (two behind `to` and `part`, one behind `id`, `origin` and `filled`, twelve
  *   behind `counts`, 84 behind a5_table_load's `table`);
  * - a box's `empty` is true or false, one of C's two bool values;
  * - no two things that are lent to one call overlap;
@@ -156,6 +156,31 @@ uint8_t a5_place_list(const double *frame, size_t frame_length, double *face, si
                       size_t sphere_length, const a5_position *positions, size_t positions_length, a5_result *results,
                       size_t results_length);
 
+/* A point on a face. */
+typedef struct {
+    double x, y;
+} a5_point;
+
+/* A caption box: the smallest upright rectangle round the points of a face taken in so far. Where it is empty, the four
+ * sides mean nothing. A box is used by one thread at a time. */
+typedef struct {
+    double least_x, greatest_x, least_y, greatest_y;
+    bool empty;
+} a5_box;
+
+/* How many positions a region has at most. */
+#define A5_REGION 256
+
+/* A region on one face, with the built-in table, on a set that a5_open has opened: a channel's outline of 1 to A5_REGION
+ * positions, which must all have the same nearest origin. That origin goes to origin, the face point of each position to
+ * points, in their order, and the smallest box round the points to box, which is then not empty; a point may lie beyond 4.
+ * The set is left as after a5_place of the positions in turn. Otherwise nothing is written and the set is as it was. What
+ * stood in points, origin and box does not matter. Refusals: 1, 2, 3, 15, 14, then the number of the first position that
+ * a5_place would refuse (5, 6, 8, 9), also where an earlier pair of positions has different origins, and last 16. */
+uint8_t a5_region(const double *frame, size_t frame_length, double *face, size_t face_length, double *sphere,
+                  size_t sphere_length, const a5_position *positions, size_t positions_length, a5_point *points,
+                  size_t points_length, uint8_t *origin, a5_box *box);
+
 /* Show: where the coordinates of a filled slot are, in the store that kind names: part[0] is the offset, in numbers,
  * and part[1] how many there are, 6 or 9. Both are 0 where the slot is empty. Only reads. Refusals: 2, 3, 10. */
 uint8_t a5_show(const double *face, size_t face_length, const double *sphere, size_t sphere_length, uint8_t kind,
@@ -215,6 +240,11 @@ uint8_t a5_unplace_with(const double *table, size_t table_length, const double *
                         size_t face_length, double *sphere, size_t sphere_length, double x, double y, uint8_t origin,
                         double to[2]);
 
+/* A region with a table. Refusals: 20, 1, 2, 3, 21, 22, 15, 14, the first failing position's (5, 6, 8, 9), 16. */
+uint8_t a5_region_with(const double *table, size_t table_length, const double *frame, size_t frame_length, double *face,
+                       size_t face_length, double *sphere, size_t sphere_length, const a5_position *positions,
+                       size_t positions_length, a5_point *points, size_t points_length, uint8_t *origin, a5_box *box);
+
 /* Nearest with a table. Refusals: 20, 21, 22, 5, 6. */
 uint8_t a5_nearest_with(const double *table, size_t table_length, double theta, double phi, uint8_t *id);
 
@@ -227,13 +257,6 @@ uint8_t a5_table_load(const uint8_t *bytes, size_t n, double table[A5_TABLE]);
 /* Writes the file of a table, which a5_table_load reads back, to A5_TABLE_FILE bytes. Refusals: 20, also where there are not so
  * many bytes, 21, 22; the bytes then stay as they were. */
 uint8_t a5_table_save(const double *table, size_t table_length, uint8_t *bytes, size_t n);
-
-/* A caption box: the smallest upright rectangle round the points of a face taken in so far. Where it is empty, the four
- * sides mean nothing. A box is used by one thread at a time. */
-typedef struct {
-    double least_x, greatest_x, least_y, greatest_y;
-    bool empty;
-} a5_box;
 
 /* Makes the box a new one, whatever stood there: empty, with sides 0.0. */
 void a5_box_new(a5_box *box);

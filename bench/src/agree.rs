@@ -2,7 +2,7 @@
 
 use crate::forms::{Form, Ours, Stepped};
 use crate::{FAR, TIMES};
-use a5_faces::{LonLat, Place, PlaceResult};
+use a5_faces::{Face, LonLat, Place, PlaceResult};
 use a5_stepped::coordinate_systems::Cartesian;
 use a5_stepped::projections::crs::CRS;
 
@@ -95,6 +95,19 @@ pub fn check_list(positions: &[LonLat]) {
         for (ours, rust) in results.iter().zip(&theirs) {
             assert_eq!((ours.refusal, ours.origin), (0, rust.origin), "a list");
             same("a list", &[ours.x, ours.y], &[rust.x, rust.y]);
+        }
+    }
+}
+
+// An outline in one call, with and without a table, and one position after another.
+pub fn check_region(positions: &[LonLat]) {
+    let mut theirs = vec![Face { x: 0.0, y: 0.0 }; positions.len()];
+    let mut points = theirs.clone();
+    let rust = Stepped::new().region_each(positions, &mut theirs);
+    for mut form in [Ours::new(), Ours::with_table()] {
+        assert_eq!(form.region(positions, &mut points), rust, "a region");
+        for (ours, rust) in points.iter().zip(&theirs) {
+            same("a region", &[ours.x, ours.y], &[rust.x, rust.y]);
         }
     }
 }

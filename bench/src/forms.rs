@@ -1,6 +1,6 @@
 // The three that are compared: the proved library, and the given Rust in both forms.
 
-use a5_faces::{calls, Face, LonLat, Place, PlaceResult, Set, Spherical, Table};
+use a5_faces::{calls, Face, LonLat, Place, PlaceResult, Set, Sides, Spherical, Table};
 use std::hint::black_box;
 
 // Each call answers: the driver hands out no argument that is refused.
@@ -26,6 +26,31 @@ pub trait Form {
     // Places them in one call, where the form has one.
     fn place_list(&mut self, positions: &[LonLat], results: &mut [PlaceResult]) {
         self.place_each(positions, results);
+    }
+    // An outline on one face: its positions placed one after another, and the least and greatest coordinates.
+    fn region_each(&mut self, positions: &[LonLat], points: &mut [Face]) -> (u8, Sides) {
+        let [mut least, mut greatest] = [[f64::INFINITY; 2], [-f64::INFINITY; 2]];
+        let mut origin = None;
+        for (position, point) in positions.iter().zip(points) {
+            let place = self.place(position.longitude, position.latitude);
+            assert_eq!(*origin.get_or_insert(place.origin), place.origin);
+            *point = place.face;
+            for (k, x) in [place.face.x, place.face.y].into_iter().enumerate() {
+                least[k] = if x < least[k] { x } else { least[k] };
+                greatest[k] = if x > greatest[k] { x } else { greatest[k] };
+            }
+        }
+        let bounds = Sides {
+            least_x: least[0],
+            greatest_x: greatest[0],
+            least_y: least[1],
+            greatest_y: greatest[1],
+        };
+        (origin.expect("a position"), bounds)
+    }
+    // The same in one call, where the form has one.
+    fn region(&mut self, positions: &[LonLat], points: &mut [Face]) -> (u8, Sides) {
+        self.region_each(positions, points)
     }
     fn unplace(&mut self, place: Place) -> [f64; 2];
     fn sine(&mut self, x: f64) -> f64;
@@ -117,6 +142,12 @@ impl Form for Ours {
         self.set
             .place_list_into(positions, results)
             .expect("place_list");
+    }
+
+    fn region(&mut self, positions: &[LonLat], points: &mut [Face]) -> (u8, Sides) {
+        let region = self.set.region(positions).expect("region");
+        points.copy_from_slice(&region.points);
+        (region.origin, region.bounds)
     }
 
     fn unplace(&mut self, place: Place) -> [f64; 2] {

@@ -6,7 +6,7 @@ mod forms;
 #[path = "../../oracle/common/generator.rs"]
 mod generator;
 
-use a5_faces::{LonLat, Place, PlaceResult};
+use a5_faces::{Face, LonLat, Place, PlaceResult, Sides};
 use forms::{Form, Ours, Plain, Stepped};
 use generator::Generator;
 use std::hint::black_box;
@@ -18,6 +18,8 @@ const A_RUN: usize = 250;
 const RUNS: usize = 401;
 // So many positions in a list.
 pub const LIST: usize = 300;
+// So many in an outline on one face.
+pub const OUTLINE: usize = 64;
 // the library, without a table and with the built-in rows as a table, and the Rust in both forms
 const FORMS: usize = 4;
 // the calls that take a table
@@ -31,7 +33,7 @@ const WITH: [&str; 7] = [
     "unplace",
 ];
 
-const CALLS: [&str; 14] = [
+const CALLS: [&str; 16] = [
     "open",
     "nearest",
     "from_lon_lat",
@@ -40,6 +42,8 @@ const CALLS: [&str; 14] = [
     "place",
     "list",
     "list singly",
+    "region",
+    "region singly",
     "unplace",
     "sine",
     "sine far",
@@ -106,6 +110,18 @@ fn time_list(positions: &[LonLat], call: impl FnOnce(&[LonLat], &mut [PlaceResul
     start.elapsed().as_nanos() as f64 / LIST as f64
 }
 
+// Nanoseconds for each position of an outline.
+fn time_region(
+    positions: &[LonLat],
+    call: impl FnOnce(&[LonLat], &mut [Face]) -> (u8, Sides),
+) -> f64 {
+    let mut points = [Face { x: 0.0, y: 0.0 }; OUTLINE];
+    let start = Instant::now();
+    black_box(call(black_box(positions), black_box(&mut points)));
+    black_box(&points);
+    start.elapsed().as_nanos() as f64 / OUTLINE as f64
+}
+
 // The same points in each call's own terms.
 struct Points {
     degrees: Vec<[f64; 2]>,
@@ -114,6 +130,8 @@ struct Points {
     // with the nearest origin
     forwards: Vec<([f64; 2], u8)>,
     places: Vec<Place>,
+    // round the middle of a face
+    outline: Vec<LonLat>,
 }
 
 // One run of each call at the points from a number on.
@@ -132,6 +150,8 @@ fn run(form: &mut impl Form, points: &Points, at: usize) -> [f64; CALLS.len()] {
         time(degrees, |p| form.place(p[0], p[1])),
         time_list(list, |p, r| form.place_list(p, r)),
         time_list(list, |p, r| form.place_each(p, r)),
+        time_region(&points.outline, |p, r| form.region(p, r)),
+        time_region(&points.outline, |p, r| form.region_each(p, r)),
         time(places, |p| form.unplace(p)),
         time(radians, |p| form.sine(p[0])),
         time(radians, |p| form.sine(p[0] + FAR)),
@@ -189,12 +209,22 @@ fn in_all_terms(degrees: Vec<[f64; 2]>) -> Points {
         latitude: p[1],
     };
     let positions = degrees.iter().map(position).collect();
+    let share = |k: usize| 0.4 * (k % OUTLINE) as f64 / OUTLINE as f64 - 0.2;
+    let on_face = (0..OUTLINE).map(|k| Place {
+        origin: 5,
+        face: Face {
+            x: share(k * 37),
+            y: share(k * 23),
+        },
+    });
+    let outline = on_face.map(|p| position(&library.unplace(p))).collect();
     Points {
         forwards: radians.iter().copied().zip(ids).collect(),
         degrees,
         positions,
         radians,
         places,
+        outline,
     }
 }
 
@@ -202,6 +232,7 @@ fn main() {
     let points = in_all_terms(points());
     agree::check(&points.degrees, &points.radians);
     agree::check_list(&points.positions[..LIST]);
+    agree::check_region(&points.outline);
     let times = interleaved(&points);
     println!("ns a call: medians of {RUNS} interleaved runs");
     println!("call             ours  stepped    plain  ours/stepped  ours/plain    with  with/ours  with/plain");

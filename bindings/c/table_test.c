@@ -1,6 +1,7 @@
 /* Tables, tried on the linked library: the built-in rows as a table give what the calls without one give; a table file that
  * examples/turned_table wrote places and unplaces; each refusal in its order, with everything lent left as it was; another table
- * than the set was opened with; a list with the table against place one by one. Its one argument is the file. Prints what failed and then one line. */
+ * than the set was opened with; a list with the table against place one by one. Its one argument is the file. Prints what
+ * failed and then one line. */
 #include "../a5.h"
 #include "check.h"
 #include <math.h>

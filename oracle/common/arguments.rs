@@ -89,6 +89,18 @@ pub fn wild<const N: usize>(g: &mut Generator) -> Vec<[f64; N]> {
     list
 }
 
+// Other numbers for a slot, of five kinds: a little moved, twice as large, anywhere, NaN for those below 0, nothing.
+pub fn other_numbers(g: &mut Generator, x: &[f64], kind: usize) -> Vec<f64> {
+    let nan_below = |x: &f64| if *x < 0.0 { f64::NAN } else { *x };
+    match kind {
+        0 => x.iter().map(|x| x + g.between(-1e-7, 1e-7)).collect(),
+        1 => x.iter().map(|x| 2.0 * x).collect(),
+        2 => x.iter().map(|_| g.between(-1.0, 1.0)).collect(),
+        3 => x.iter().map(nan_below).collect(),
+        _ => vec![0.0; x.len()],
+    }
+}
+
 // The two arrays one after the other.
 pub fn join<const A: usize, const B: usize, const N: usize>(a: [f64; A], b: [f64; B]) -> [f64; N] {
     let both = [a.as_slice(), b.as_slice()].concat();

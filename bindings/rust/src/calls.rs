@@ -8,7 +8,7 @@
 // Each is inlined, so that a caller has the library's own call and nothing beside it.
 
 use crate::raw;
-use crate::{Face, LonLat, Place, PlaceResult, Refusal, Spherical, Store};
+use crate::{Face, LonLat, Place, PlaceResult, Refusal, Sides, Spherical, Store};
 
 // 0 is an answer. The library is proved to return a number of the table otherwise.
 #[inline]
@@ -156,6 +156,45 @@ pub fn place_list(
         )
     };
     given(status, ())
+}
+
+// Before a region is worked out: what stands where its box goes.
+const NO_BOX: raw::Caption = raw::Caption {
+    least_x: 0.0,
+    greatest_x: 0.0,
+    least_y: 0.0,
+    greatest_y: 0.0,
+    empty: true,
+};
+
+/// An outline of 1 to 256 positions on one face: the origin that is nearest to each of them, and the sides of the box round
+/// their face points, which go to `points`, of which there must be as many. Where it is refused, nothing is written.
+#[inline]
+pub fn region(
+    frame: &[f64],
+    face: &mut [f64],
+    sphere: &mut [f64],
+    positions: &[LonLat],
+    points: &mut [Face],
+) -> Result<(u8, Sides), Refusal> {
+    let (mut origin, mut caption) = (0, NO_BOX);
+    let status = unsafe {
+        raw::a5_region(
+            frame.as_ptr(),
+            frame.len(),
+            face.as_mut_ptr(),
+            face.len(),
+            sphere.as_mut_ptr(),
+            sphere.len(),
+            positions.as_ptr().cast(),
+            positions.len(),
+            points.as_mut_ptr().cast(),
+            points.len(),
+            &mut origin,
+            &mut caption,
+        )
+    };
+    given(status, (origin, Sides::of(caption)))
 }
 
 /// The longitude and latitude of a point on the face of an origin.
@@ -323,6 +362,38 @@ pub fn place_list_with(
         )
     };
     given(status, ())
+}
+
+/// [`region`] with the origins of a table.
+#[inline]
+pub fn region_with(
+    table: &[f64],
+    frame: &[f64],
+    face: &mut [f64],
+    sphere: &mut [f64],
+    positions: &[LonLat],
+    points: &mut [Face],
+) -> Result<(u8, Sides), Refusal> {
+    let (mut origin, mut caption) = (0, NO_BOX);
+    let status = unsafe {
+        raw::a5_region_with(
+            table.as_ptr(),
+            table.len(),
+            frame.as_ptr(),
+            frame.len(),
+            face.as_mut_ptr(),
+            face.len(),
+            sphere.as_mut_ptr(),
+            sphere.len(),
+            positions.as_ptr().cast(),
+            positions.len(),
+            points.as_mut_ptr().cast(),
+            points.len(),
+            &mut origin,
+            &mut caption,
+        )
+    };
+    given(status, (origin, Sides::of(caption)))
 }
 
 /// [`unplace`] with the origins of a table.

@@ -50,19 +50,20 @@ impl CaptionBox {
     /// The four sides; `None` while no point was taken in.
     #[inline]
     pub fn sides(&self) -> Option<Sides> {
-        let raw::Caption {
-            least_x,
-            greatest_x,
-            least_y,
-            greatest_y,
-            empty,
-        } = self.0;
-        (!empty).then_some(Sides {
-            least_x,
-            greatest_x,
-            least_y,
-            greatest_y,
-        })
+        (!self.0.empty).then_some(Sides::of(self.0))
+    }
+}
+
+impl Sides {
+    // Of a box with a point in it.
+    #[inline]
+    pub(crate) fn of(caption: raw::Caption) -> Sides {
+        Sides {
+            least_x: caption.least_x,
+            greatest_x: caption.greatest_x,
+            least_y: caption.least_y,
+            greatest_y: caption.greatest_y,
+        }
     }
 }
 

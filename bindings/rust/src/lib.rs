@@ -1,8 +1,8 @@
 //! Twelve faces for regional maps: a safe interface to the proved library.
 //!
 //! A [`Set`] owns its buffers and is open from the start; its methods are the calls on it, and
-//! [`place_list`](Set::place_list) places many positions in one. [`calls`] has the same calls
-//! on slices that the caller keeps elsewhere. Every call is total: it answers, or it is refused with a [`Refusal`] and
+//! [`place_list`](Set::place_list) places many positions in one and [`region`](Set::region) an outline on one face.
+//! [`calls`] has the same calls on slices that the caller keeps elsewhere. Every call is total: it answers, or it is refused with a [`Refusal`] and
 //! changes nothing. Angles of [`LonLat`] are degrees, those of [`Spherical`] are radians. A [`CaptionBox`] grows round
 //! the points of one face, and a [`Window`] keeps the last 180 minutes of strikes. A [`Table`] holds other origins, for a
 //! dodecahedron that is turned; a set is opened with it and remembers it.
@@ -24,7 +24,7 @@ mod turns;
 mod window;
 
 pub use caption::{CaptionBox, Sides};
-pub use points::{Face, LonLat, Place, PlaceResult, Spherical, Store};
+pub use points::{Face, LonLat, Place, PlaceResult, Region, Spherical, Store};
 pub use refusal::Refusal;
 pub use root::{sqrt, sqrt_rounds};
 pub use set::Set;
@@ -36,6 +36,8 @@ pub use window::Window;
 pub const CHANNELS: usize = 16;
 /// How many bytes a [sheet](Window::sheet) has: 60 lines of 80 columns and a newline.
 pub const PAGE: usize = 4860;
+/// How many positions a [region](Set::region) has at most.
+pub const REGION: usize = 256;
 /// How many slots the face store has.
 pub const FACE_SLOTS: usize = 30;
 /// How many coordinates a face slot has: two of each vertex of its triangle.

@@ -1,6 +1,6 @@
 // What goes into a call and comes out.
 
-use crate::Refusal;
+use crate::{Refusal, Sides};
 
 /// Longitude (−360 to 360) and latitude (−90 to 90), in degrees.
 #[derive(Clone, Copy, Debug, PartialEq)]
@@ -20,6 +20,8 @@ pub struct Spherical {
 
 /// A point on a face: x and y (−4 to 4).
 #[derive(Clone, Copy, Debug, PartialEq)]
+// as the library writes it in a region
+#[repr(C)]
 pub struct Face {
     pub x: f64,
     pub y: f64,
@@ -51,6 +53,15 @@ impl PlaceResult {
         let face = Face { x, y };
         crate::calls::given(self.refusal, Place { origin, face })
     }
+}
+
+/// An outline on one face: its origin (0 to 11), the face point of each position, in their order, and the sides of the
+/// smallest box round the points.
+#[derive(Clone, Debug, PartialEq)]
+pub struct Region {
+    pub origin: u8,
+    pub points: Vec<Face>,
+    pub bounds: Sides,
 }
 
 /// The store that show looks at.

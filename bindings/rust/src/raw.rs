@@ -1,5 +1,5 @@
 // The library's functions as they are linked; bindings/a5.h says what each does. A slice is a pointer and how many
-// numbers there are; a position in a list is two numbers. oracle/compare includes this file: it looks at what a refusal leaves where an answer would stand,
+// numbers there are; a position and a point in a list are two numbers each. oracle/compare includes this file: it looks at what a refusal leaves where an answer would stand,
 // which the safe functions do not show.
 
 // The calls on a set take two numbers, and then an origin or, of place, where to write one.
@@ -93,6 +93,36 @@ extern "C" {
         positions_length: usize,
         results: *mut Placed,
         results_length: usize,
+    ) -> u8;
+    pub fn a5_region(
+        frame: *const f64,
+        frame_length: usize,
+        face: *mut f64,
+        face_length: usize,
+        sphere: *mut f64,
+        sphere_length: usize,
+        positions: *const [f64; 2],
+        positions_length: usize,
+        points: *mut [f64; 2],
+        points_length: usize,
+        origin: *mut u8,
+        caption: *mut Caption,
+    ) -> u8;
+    pub fn a5_region_with(
+        table: *const f64,
+        table_length: usize,
+        frame: *const f64,
+        frame_length: usize,
+        face: *mut f64,
+        face_length: usize,
+        sphere: *mut f64,
+        sphere_length: usize,
+        positions: *const [f64; 2],
+        positions_length: usize,
+        points: *mut [f64; 2],
+        points_length: usize,
+        origin: *mut u8,
+        caption: *mut Caption,
     ) -> u8;
     pub fn a5_open_with(
         table: *const f64,

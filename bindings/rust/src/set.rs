@@ -1,7 +1,7 @@
 // A set that owns its buffers.
 
 use crate::calls;
-use crate::{Face, LonLat, Place, PlaceResult, Refusal, Spherical, Store, Table};
+use crate::{Face, LonLat, Place, PlaceResult, Refusal, Region, Spherical, Store, Table};
 
 /// The frame, the face store and the sphere store, open from the start. The calls fill slots of the stores, which makes
 /// later calls quicker; an answer never depends on the calls before it. A call takes the set as `&mut`, so that no two
@@ -120,10 +120,26 @@ impl Set {
         let (frame, face, sphere) = (&self.frame, &mut self.face, &mut self.sphere);
         match &self.table {
             None => calls::place_list(frame, face, sphere, positions, results),
-            Some(t) => {
-                calls::place_list_with(t.numbers(), frame, face, sphere, positions, results)
-            }
+            Some(t) => calls::place_list_with(t.numbers(), frame, face, sphere, positions, results),
         }
+    }
+
+    /// An outline of 1 to 256 positions on one face: the origin that is nearest to each of them, the point of each on its
+    /// face, and the box round the points. Refused where a position is, with the first one's refusal, and where two have
+    /// different nearest origins; the set then stays as it was.
+    pub fn region(&mut self, positions: &[LonLat]) -> Result<Region, Refusal> {
+        // where there are too many it is refused before the points are counted
+        let mut points = vec![Face { x: 0.0, y: 0.0 }; positions.len().min(crate::REGION)];
+        let (frame, face, sphere) = (&self.frame, &mut self.face, &mut self.sphere);
+        let (origin, bounds) = match &self.table {
+            None => calls::region(frame, face, sphere, positions, &mut points),
+            Some(t) => calls::region_with(t.numbers(), frame, face, sphere, positions, &mut points),
+        }?;
+        Ok(Region {
+            origin,
+            points,
+            bounds,
+        })
     }
 
     /// The longitude and latitude of a point on the face of an origin.

@@ -119,7 +119,12 @@ pub fn inverse(
 }
 
 // What place gives, with nothing written yet.
-fn place_work(frame: &[f64], face_store: &[f64], sphere_store: &[f64], lonlat: LonLat) -> PlaceWork
+pub fn place_work(
+    frame: &[f64],
+    face_store: &[f64],
+    sphere_store: &[f64],
+    lonlat: LonLat,
+) -> PlaceWork
     ensures { λ r. ⌜ givenPlaceWork r ≡ placeGiven ieee ORIGINS (lent frame «face_store» «sphere_store» .entry) lonlat ⌝ }
 {
     let set = check_set(frame, face_store, sphere_store);

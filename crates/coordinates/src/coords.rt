@@ -3,7 +3,8 @@ use crate::vec3::Vec3;
 
 // 2D coordinate systems
 
-// A point in the plane of a face, whose centre is (0, 0).
+// A point in the plane of a face, whose centre is (0, 0). Laid out as in C, where it is two doubles.
+#[repr(C)]
 pub struct Face(pub Vec2);
 
 // 3D coordinate systems

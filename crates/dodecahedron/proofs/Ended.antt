@@ -26,6 +26,7 @@ use Rattle.stores.specs.declared.used.Used.{Used}
 use Rattle.stores.proofs.Within.{written-there}
 use Rattle.triangles.specs.Taken.{usedFor}
 use Rattle.triangles.proofs.Within.{answered-same, used-within}
+use Rattle.triangles.proofs.Uses.{UsedOn, used-on}
 use Rattle.dodecahedron.specs.Place.{finitePlace}
 use Rattle.dodecahedron.specs.Work.{Work, usedOf, setUsed, setUsedIfThere, finish}
 use Rattle.dodecahedron.specs.Projection.{forwardCore, inverseCore}
@@ -51,7 +52,7 @@ then-four : {X : Type 0} (a b c d : Given (Unit {0})) (rest : Given X)
 then-four a b c d rest = then-thrice a b c (andThen d rest) ∙ then-then (andThen (andThen a b) c) d rest
 
 -- an answer that was finished is one that was worked out, with the same slots used
-finish-used : {X Y : Type 0} (core : Given (Work X)) (f : X → Given Y) (w : Work Y) → finish core f ≡ answered w
+pub finish-used : {X Y : Type 0} (core : Given (Work X)) (f : X → Given Y) (w : Work Y) → finish core f ≡ answered w
     → (v : Work X) × (core ≡ answered v) × (v .used ≡ w .used)
 unfolding finish
 finish-used {X} {Y} core f w e =
@@ -123,15 +124,26 @@ module _ (A : Arith) (table : List Float) (s : Set) where
     pub place-refused : (n : ℕ) → andThen (checkWith A table s) (checkLonLat l) ≡ refused n → placeGiven A table s l ≡ refused n
     place-refused n e = place-is (fromLonLat A l) _ refl refl ∙ rw e
 
-    pub place-there : (w : Work Place) → placeGiven A table s l ≡ answered w → There (w .used)
-    place-there w e =
+    -- where it answers: the set passes 1, 2, 3, 21, 22, and these are the slots of the nearest origin
+    place-passed : (w : Work Place) → placeGiven A table s l ≡ answered w → let o = nearestOrigin A table (fromLonLat A l) in
+        (polar : Polar) × (checkWith A table s ≡ passed) × (usedFor A (originAt table o) s o polar ≡ answered (w .used))
+    place-passed w e =
         let p = fromLonLat A l in
         let o = nearestOrigin A table p in
         let tests = then-answered _ _ w (sym (place-is p o refl refl) ∙ e) in
         let passes = then-answered (checkWith A table s) (checkLonLat l) tt (tests .0) in
         let worked = finish-used (forwardCore A (originAt table o) s p o) (finitePlace o) w (tests .1) in
-        let used = forward-used A (originAt table o) s o p (worked .0) (worked .1) ∙ ap answered (worked .2) in
-        there o _ (w .used) (passes .0) (nearest-is A table p .origin) used
+        (_, passes .0, forward-used A (originAt table o) s o p (worked .0) (worked .1) ∙ ap answered (worked .2))
+
+    pub place-there : (w : Work Place) → placeGiven A table s l ≡ answered w → There (w .used)
+    place-there w e =
+        let known = place-passed w e in
+        there _ (known .0) (w .used) (known .1) (nearest-is A table (fromLonLat A l) .origin) (known .2)
+
+    pub place-used : (w : Work Place) → placeGiven A table s l ≡ answered w → UsedOn A table s (w .used)
+    place-used w e =
+        let known = place-passed w e in
+        used-on A table s _ (known .0) (w .used) (with-passed A table s (known .1) .0) (nearest-is A table (fromLonLat A l) .origin) (known .2)
 
 -- ---- how a call ends
 

@@ -1,6 +1,6 @@
 // A list of positions with a table, as a C function. A table is a pointer and a length in C, as in crate exports_tables.
-use coordinates::lonlat::LonLat;
 use border::rows::rows;
+use coordinates::lonlat::LonLat;
 use place_list::PlaceResult;
 ghost use mathlib.Core.Path.{_≡_};
 ghost use Rattle.arithmetic.specs.Arith.{ieee};

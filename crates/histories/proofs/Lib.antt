@@ -1,5 +1,4 @@
 -- The theorem about every list of calls, what it rests on, and what follows from it.
-pub mod Runs
 pub mod Told
 pub mod Stores
 pub mod Taken

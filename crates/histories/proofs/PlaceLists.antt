@@ -7,14 +7,17 @@ use lib.Ieee.{Float}
 use lib.ListN.{length}
 use Rattle.answer.specs.Given.{Given, answered, refused, andThen}
 use Rattle.arithmetic.specs.Arith.{ieee}
+use Rattle.coordinates.specs.declared.coords.Face.{Face}
 use Rattle.coordinates.specs.declared.lonlat.LonLat.{LonLat}
 use Rattle.origin.specs.Table.{checkTable}
 use Rattle.set.specs.Set.{Set}
 use Rattle.stores.specs.declared.used.Used.{Used}
 use Rattle.dodecahedron.specs.Work.{answerOf, usedOf, setUsed}
 use Rattle.dodecahedron.specs.Calls.{placeGiven}
-use Rattle.place_list.specs.Lists.{resultOf, placed, placedOne, placedInTurn, checkCounts, checkList, unlessRefused, placeListOn}
+use Rattle.place_list.specs.Lists.{resultOf, Placed, placed, placedOne, placedInTurn, checkCounts, checkList, unlessRefused, placeListOn}
 use Rattle.place_list.specs.declared.PlaceResult.{PlaceResult}
+use Rattle.region_work.specs.declared.region.Region.{Region}
+use Rattle.region_work.specs.Region.{checkPositions, firstFailing, checkOrigins, pointsOf, regionOf, regionLeft, regionGiven, regionOn}
 use Rattle.histories.specs.EveryList.{SameAnswers}
 use Rattle.histories.specs.Results.{each}
 use Rattle.histories.proofs.Told.{Since}
@@ -28,6 +31,11 @@ good-after : (table : List Float) (w : Since) (s : Set) → Good table w s → (
     → (v : Since) × Good table v (setUsed ieee s g)
 good-after table w s good (refused n) on = (w, good)
 good-after table w s good (answered u) on = (_, used-good table w s good u (on u refl))
+
+-- a region's answer is handed on as it was given
+left-answer : (g : Given Region) (d : Placed) (points : List Face) (s : Set) → regionLeft g d points s .answer ≡ g
+left-answer (answered r) d points s = refl
+left-answer (refused n) d points s = refl
 
 module _ (table : List Float) (v : Since) (n : Set) (also : Good table v n) where
   pub in-turn-each : (ps : List LonLat) (w : Since) (s : Set) → Good table w s → placedInTurn ieee table s ps .results ≡ each table n ps
@@ -54,6 +62,34 @@ module _ (table : List Float) (w v : Since) (s n : Set) (good : Good table w s) 
       by (answered u) h e = same-results ps ∙ ap (λ (c : Given (Unit {0})). unlessRefused c (placedInTurn ieee table n ps) (placed rs n) .results) e
       by (refused k) h e = ap (λ (c : Given (Unit {0})). unlessRefused c (placedInTurn ieee table n ps) (placed rs n) .results) e
 
+  -- ---- a region
+
+  same-region : (ps : List LonLat) (k m : ℕ) → regionGiven ieee table s ps k m ≡ regionGiven ieee table n ps k m
+  unfolding regionGiven
+  same-region ps k m =
+      ap₂ (λ (check : Given (Unit {0})) (rs : List PlaceResult).
+      andThen (andThen check (checkTable ieee table))
+      (andThen (checkPositions k)
+      (andThen (checkCounts k m)
+      (andThen (firstFailing rs)
+      (andThen (checkOrigins rs)
+      (answered (regionOf rs)))))))
+      (same-checks table w v s n good also) (same-results ps)
+
+  region-same : (ps : List LonLat) (points : List Face) → regionOn ieee table s ps points .points ≡ regionOn ieee table n ps points .points
+  region-same ps points = by _ _ (same-region ps (length ps) (length points))
+    where
+      by : (g h : Given Region) → g ≡ h
+          → regionLeft g (placedInTurn ieee table s ps) points s .points ≡ regionLeft h (placedInTurn ieee table n ps) points n .points
+      by (answered r) h e = ap pointsOf (same-results ps) ∙ ap (λ (c : Given Region). regionLeft c (placedInTurn ieee table n ps) points n .points) e
+      by (refused k) h e = ap (λ (c : Given Region). regionLeft c (placedInTurn ieee table n ps) points n .points) e
+
+  region-answer : (ps : List LonLat) (points : List Face) → regionOn ieee table s ps points .answer ≡ regionOn ieee table n ps points .answer
+  region-answer ps points =
+      left-answer (regionGiven ieee table s ps (length ps) (length points)) _ points s
+      ∙ same-region ps (length ps) (length points)
+      ∙ sym (left-answer (regionGiven ieee table n ps (length ps) (length points)) _ points n)
+
   pub same-answers : SameAnswers table s n
   same-answers =
       record {
@@ -62,4 +98,5 @@ module _ (table : List Float) (w v : Since) (s n : Set) (good : Good table w s) 
         place = λ p. ap answerOf (place-same table w v s n good also p);
         unplace = λ f o. ap answerOf (unplace-same table w v s n good also f o);
         place-list = λ ps rs. (same-check (length ps) (length rs), list-same ps rs);
+        region = λ ps points. (region-answer ps points, region-same ps points);
       }

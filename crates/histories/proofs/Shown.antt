@@ -24,7 +24,7 @@ use Rattle.set.specs.Open.{openGiven}
 use Rattle.histories.specs.Lists.{Call}
 use Rattle.histories.specs.Defined.{sphereDefined}
 use Rattle.histories.specs.EveryList.{left, lastOpen}
-use Rattle.histories.proofs.Stores.{slot-part}
+use Rattle.stores.proofs.Written.{slot-part}
 use Rattle.histories.proofs.Told.{sinceOpen}
 use Rattle.histories.proofs.Theorem.{good-left, face-mark, sphere-mark, face-slot, sphere-triangle}
 
@@ -64,7 +64,7 @@ module _ (t : List Float) (b : Set) (ready : openGiven ieee t b ≡ passed) (cs 
   pub face-shown : (k : ℕ) → k < FACE-SLOTS → sinceOpen t b cs .faces k ≡ true → shownOn now kind.Face k ≡ faceRun (faceTriangle ieee k)
   face-shown k h u =
       part-is now kind.Face k true (face-state k h ∙ ap answered u)
-      ∙ slot-part FACE-WIDTH (now .faces) k (omega arith) 1 FACE-COORDINATES _ (omega arith) (face-slot t b ready cs k true h u)
+      ∙ slot-part FACE-WIDTH (now .faces) k 1 FACE-COORDINATES _ (omega arith) (face-slot t b ready cs k true h u)
 
   pub sphere-shown : (k : ℕ) → k < SPHERE-SLOTS → sinceOpen t b cs .spheres k ≡ true
       → (d : SphericalTriangle) × (sphereDefined (lastOpen t b cs .table) (lastOpen t b cs .set .frame) k ≡ answered d)
@@ -72,7 +72,7 @@ module _ (t : List Float) (b : Set) (ready : openGiven ieee t b ≡ passed) (cs 
   sphere-shown k h u =
       let held = sphere-triangle t b ready cs k h u in
       let part = part-is now kind.Sphere k true (sphere-state k h ∙ ap answered u) in
-      (held .0, held .1, part ∙ slot-part SPHERE-WIDTH (now .spheres) k (omega arith) 1 SPHERE-COORDINATES _ (omega arith) (held .2))
+      (held .0, held .1, part ∙ slot-part SPHERE-WIDTH (now .spheres) k 1 SPHERE-COORDINATES _ (omega arith) (held .2))
 
   -- and any other's is empty
   pub face-not-shown : (k : ℕ) → k < FACE-SLOTS → sinceOpen t b cs .faces k ≡ false → shownOn now kind.Face k ≡ []

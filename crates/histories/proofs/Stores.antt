@@ -1,10 +1,10 @@
--- A store of marked slots, over its width, how many slots it has and what is defined for each: a slot that is written, and a slot that is
--- read. Assumes nothing.
-use mathlib.Core.Path.{_≡_, refl, sym, ap, _∙_}
+-- A store of marked slots, over its width, how many slots it has and what is defined for each: all slots once one is written. Assumes
+-- nothing.
+use mathlib.Core.Path.{_≡_, refl, ap, _∙_}
 use mathlib.Core.Bool.{Bool, true, false, cond, _||_, or-true, or-false}
 use mathlib.Core.List.{List, _∷_}
 use Prim.Native.Nat.{ℕ, zero, suc, _+_, _*_, _<_, _≤_}
-use native.Mathlib.Nat.{add-zero, mul-le-mul-right}
+use native.Mathlib.Nat.{mul-le-mul-right}
 use native.Mathlib.Decide.{ℕ-discrete}
 use native.Mathlib.Omega.{arith}
 use lib.Dec.{eqb}
@@ -12,44 +12,11 @@ use lib.ListN.{length, getD, replicate}
 use lib.Ieee.{Float, nan, eq, ofBits}
 use borrow.Author.Tests.{eq-eqb, ne-eqb}
 use Rattle.arithmetic.specs.Numbers.{0·0, 1·0}
-use Rattle.stores.specs.Slots.{run, put, filled, slotWritten}
-use Rattle.stores.proofs.Runs.{length-put}
+use Rattle.stores.specs.Slots.{filled, slotWritten}
 use Rattle.histories.specs.Since.{Slots}
 use Rattle.histories.specs.Defined.{slotAt}
-use Rattle.histories.proofs.Runs.{Outside, put-outside, getD-beyond, getD-run, run-same, run-put, run-run, other-slot}
-
--- ---- a slot that is written, whatever the store holds
-
-module _ (w : ℕ) (xs : List Float) (k : ℕ) (ys : List Float) (size : suc (length ys) ≡ w) (fits : k * w + w ≤ length xs) where
-  abbrev written : List Float
-  written = slotWritten w xs k ys
-
-  pub written-length : length written ≡ length xs
-  unfolding slotWritten
-  written-length = go (filled xs (k * w))
-    where
-      go : (b : Bool) → length (cond b xs (put xs (k * w) (1·0 ∷ ys))) ≡ length xs
-      go true = refl
-      go false = length-put xs (k * w) (1·0 ∷ ys) (omega arith)
-
-  written-same : slotAt w written k ≡ cond (filled xs (k * w)) (slotAt w xs k) (1·0 ∷ ys)
-  unfolding slotWritten
-  written-same = go (filled xs (k * w))
-    where
-      go : (b : Bool) → slotAt w (cond b xs (put xs (k * w) (1·0 ∷ ys))) k ≡ cond b (slotAt w xs k) (1·0 ∷ ys)
-      go true = refl
-      go false = ap (run (put xs (k * w) (1·0 ∷ ys)) (k * w)) (sym size) ∙ run-put xs (k * w) (1·0 ∷ ys) (omega arith)
-
-  pub written-outside : (i : ℕ) → Outside (k * w) w i → getD written i nan ≡ getD xs i nan
-  unfolding slotWritten
-  written-outside i out = go (filled xs (k * w))
-    where
-      go : (b : Bool) → getD (cond b xs (put xs (k * w) (1·0 ∷ ys))) i nan ≡ getD xs i nan
-      go true = refl
-      go false = put-outside xs (k * w) (1·0 ∷ ys) i nan (rw size out) (omega arith)
-
-  pub written-other : (j : ℕ) → (j ≡ k → ⊥) → slotAt w written j ≡ slotAt w xs j
-  written-other j ne = run-same written xs (j * w) w nan written-length (λ i h. written-outside (j * w + i) (other-slot w j k i ne h))
+use Rattle.stores.proofs.ReadBack.{getD-beyond}
+use Rattle.stores.proofs.Written.{one-marks, mark-at, written-length, written-same, written-other}
 
 -- ---- a slot that is known to hold its mark and a run, or nothing but 0.0
 
@@ -61,28 +28,14 @@ unfolding eq ofBits
 zeros-empty zero h = absurd (omega arith)
 zeros-empty (suc w) h = refl
 
-one-marks : eq 1·0 1·0 ≡ true
-unfolding eq ofBits
-one-marks = refl
-
 nan-empty : eq nan 1·0 ≡ false
 unfolding eq ofBits
 nan-empty = refl
 
 module _ (w : ℕ) (xs : List Float) (k : ℕ) (positive : 0 < w) where
-  mark-at : filled xs (k * w) ≡ eq (getD (slotAt w xs k) 0 nan) 1·0
-  unfolding filled
-  mark-at =
-      let first = ap (λ (i : ℕ). getD xs i nan) (sym (add-zero (k * w))) ∙ sym (getD-run xs (k * w) w 0 nan positive) in
-      ap (λ (x : Float). eq x 1·0) first
-
   pub slot-filled : (b : Bool) (r : List Float) → slotAt w xs k ≡ slotOf b w r → filled xs (k * w) ≡ b
-  slot-filled true r e = mark-at ∙ ap (λ (l : List Float). eq (getD l 0 nan) 1·0) e ∙ one-marks
-  slot-filled false r e = mark-at ∙ ap (λ (l : List Float). eq (getD l 0 nan) 1·0) e ∙ zeros-empty w positive
-
-  -- n numbers from the i-th of a slot on
-  pub slot-part : (i n : ℕ) (r : List Float) → i + n ≤ w → slotAt w xs k ≡ r → run xs (k * w + i) n ≡ run r i n
-  slot-part i n r h e = sym (run-run xs (k * w) w i n h) ∙ ap (λ (l : List Float). run l i n) e
+  slot-filled true r e = mark-at w xs k positive ∙ ap (λ (l : List Float). eq (getD l 0 nan) 1·0) e ∙ one-marks
+  slot-filled false r e = mark-at w xs k positive ∙ ap (λ (l : List Float). eq (getD l 0 nan) 1·0) e ∙ zeros-empty w positive
 
 -- behind a store's end no slot is filled
 pub beyond-empty : (xs : List Float) (i : ℕ) → length xs ≤ i → filled xs i ≡ false

@@ -29,9 +29,10 @@ use Rattle.triangles.specs.Triangles.{faceTaken, sphereBuilt, sphereTaken, cros
 use Rattle.set.specs.Set.{Set}
 use Rattle.histories.specs.Lists.{standing}
 use Rattle.histories.specs.Defined.{sphereDefined, slotAt}
-use Rattle.histories.proofs.Runs.{length-run, run-replicate}
+use Rattle.stores.proofs.ReadBack.{length-run, run-replicate}
+use Rattle.stores.proofs.Written.{slot-part}
 use Rattle.histories.proofs.Told.{Since, newly}
-use Rattle.histories.proofs.Stores.{slotOf, slot-filled, slot-part, beyond-empty, Holds}
+use Rattle.histories.proofs.Stores.{slotOf, slot-filled, beyond-empty, Holds}
 
 -- ---- what a slot is defined to hold behind its mark
 
@@ -104,7 +105,7 @@ module _ (table : List Float) (w : Since) (s : Set) (good : Good table w s) wher
       inside : (b : Bool) → slotAt FACE-WIDTH (s .faces) k ≡ slotOf b FACE-WIDTH (faceCoordinates k) → taken (filled (s .faces) (k * FACE-WIDTH))
       inside true e =
           rw (slot-filled FACE-WIDTH (s .faces) k (omega arith) true _ e)
-          (ap faceIn (slot-part FACE-WIDTH (s .faces) k (omega arith) 1 FACE-COORDINATES _ (omega arith) e))
+          (ap faceIn (slot-part FACE-WIDTH (s .faces) k 1 FACE-COORDINATES _ (omega arith) e))
       inside false e = rw (slot-filled FACE-WIDTH (s .faces) k (omega arith) false (faceCoordinates k) e)
 
       by : Dec (k < FACE-SLOTS) → taken (filled (s .faces) (k * FACE-WIDTH))
@@ -136,7 +137,7 @@ module _ (table : List Float) (w : Since) (s : Set) (good : Good table w s) wher
 
       read : (d : Given SphericalTriangle) → slotAt SPHERE-WIDTH (s .spheres) k ≡ 1·0 ∷ runOf d → held ≡ d
       read (answered t) e =
-          ap (λ (l : List Float). answered (sphereIn l)) (slot-part SPHERE-WIDTH (s .spheres) k (omega arith) 1 SPHERE-COORDINATES _ (omega arith) e)
+          ap (λ (l : List Float). answered (sphereIn l)) (slot-part SPHERE-WIDTH (s .spheres) k 1 SPHERE-COORDINATES _ (omega arith) e)
       read (refused n) e = absurd (omega (arith, ap length e, long))
 
       go : (b : Bool) → slotAt SPHERE-WIDTH (s .spheres) k ≡ slotOf b SPHERE-WIDTH (sphereCoordinates table (w .frame) k)
@@ -162,5 +163,5 @@ module _ (table : List Float) (w : Since) (s : Set) (good : Good table w s) wher
       go true f =
           let holds : slotAt SPHERE-WIDTH (s .spheres) k ≡ 1·0 ∷ sphereRun t own = f ∙ ap (λ (d : Given SphericalTriangle). 1·0 ∷ runOf d) e in
           rw (slot-filled SPHERE-WIDTH (s .spheres) k (omega arith) true _ f)
-          (ap vectorIn (slot-part SPHERE-WIDTH (s .spheres) k (omega arith) SPHERE-CROSS 3 _ (omega arith) holds))
+          (ap vectorIn (slot-part SPHERE-WIDTH (s .spheres) k SPHERE-CROSS 3 _ (omega arith) holds))
       go false f = rw (slot-filled SPHERE-WIDTH (s .spheres) k (omega arith) false (sphereCoordinates table (w .frame) k) f)

@@ -22,7 +22,7 @@ use Rattle.histories.specs.Lists.{standing, Call}
 use Rattle.histories.specs.Defined.{slotAt, sphereDefined}
 use Rattle.histories.specs.EveryList.{opened, left, lastOpen, Demand3}
 use Rattle.histories.specs.Results.{ResultsAlone}
-use Rattle.histories.proofs.Runs.{length-run}
+use Rattle.stores.proofs.ReadBack.{length-run}
 use Rattle.histories.proofs.Told.{Since, newly, sinceOpen, frame-opened, table-opened}
 use Rattle.histories.proofs.Stores.{slotOf, slot-filled}
 use Rattle.histories.proofs.Taken.{Good, fresh, fresh-good, faceCoordinates, runOf, sphereCoordinates}

@@ -16,33 +16,27 @@ use Rattle.coordinates.specs.declared.spherical.Spherical.{Spherical}
 use Rattle.origin.specs.Origins.{originAt}
 use Rattle.nearest.specs.Nearest.{nearestOrigin}
 use Rattle.nearest.proofs.LowestNearest.{nearest-is}
-use Rattle.tiling.specs.Index.{triangleIndex, shouldReflect}
-use Rattle.tiling.proofs.Modulo.{index-below-10}
 use Rattle.set.specs.Set.{Set}
 use Rattle.set.specs.Checks.{checkOrigin, checkWith}
 use Rattle.set.proofs.Lengths.{Fits, with-passed, origin-passed}
-use Rattle.stores.specs.Slots.{sourceSlot, sphereSlot}
 use Rattle.stores.specs.Used.{usedWritten}
 use Rattle.stores.specs.declared.used.Used.{Used}
-use Rattle.triangles.specs.Triangles.{sphereTaken, crossTaken}
 use Rattle.triangles.specs.Taken.{usedFor}
 use Rattle.triangles.proofs.Within.{answered-same}
+use Rattle.triangles.proofs.Uses as any
 use Rattle.dodecahedron.specs.Place.{finitePlace}
 use Rattle.dodecahedron.specs.Work.{Work, usedOf, setUsed, finish}
 use Rattle.dodecahedron.specs.Calls.{placeGiven}
 use Rattle.place_list.specs.Lists.{checkList}
 use Rattle.place_list.specs.Uses.{counted, usedInTurn, usedByList}
+use Rattle.region_work.specs.Region.{regionGiven}
+use Rattle.region_work.specs.Uses.{usedByRegion}
 use Rattle.dodecahedron.proofs.Worked.{forward-used, inverse-used}
-use Rattle.dodecahedron.proofs.Ended.{testsOn, forward-is, inverse-is, place-is, unplace-is}
-use Rattle.histories.specs.Lists.{Standing, standing, Call, opens, forwards, inverses, places, unplaces, lists, shows, asks, Effect, writes, uses, reads, alone, effect}
+use Rattle.dodecahedron.proofs.Ended.{testsOn, finish-used, forward-is, inverse-is, place-is, unplace-is}
+use Rattle.histories.specs.Lists.{Standing, standing, Call, opens, forwards, inverses, places, unplaces, lists, regions, shows, asks, Effect, writes, uses, reads, alone, effect}
 
-pub record UsedOn (table : List Float) (s : Set) (u : Used) : Type 0 where
-  pub fits : Fits s
-  pub origin : u .origin < 12
-  pub index : u .index < 10
-  pub taken : sphereTaken ieee s (originAt table (u .origin)) (sphereSlot (u .origin) (u .index) (u .reflected)) (sourceSlot (u .index) (u .reflected))
-      ≡ answered (u .triangle)
-  pub crossed : crossTaken ieee (s .spheres) (sphereSlot (u .origin) (u .index) (u .reflected)) (u .triangle) ≡ u .bxc
+abbrev pub UsedOn : List Float → Set → Used → Type 0
+UsedOn table s u = any.UsedOn ieee table s u
 
 -- of several projections each, on the set that those before have left
 abbrev pub UsedAll : List Float → Set → List Used → Type 0
@@ -66,25 +60,7 @@ work-used : {X : Type 0} (g : Given (Work X)) (u : Used) → usedOf g ≡ answer
 work-used (refused n) u e = refused-answers-nothing n u e
 work-used (answered w) u e = (w, refl, answered-same e)
 
-finish-used : {X Y : Type 0} (core : Given (Work X)) (f : X → Given Y) (w : Work Y) → finish core f ≡ answered w
-    → (v : Work X) × (core ≡ answered v) × (v .used ≡ w .used)
-unfolding finish
-finish-used {X} {Y} core f w e =
-    let worked = bind-answered core _ w e in
-    let ended = bind-answered (f (worked .0 .answer)) _ w (worked .2) in
-    (worked .0, worked .1, ap (λ (x : Work Y). x .used) (answered-same (ended .2)))
-
 module _ (table : List Float) (s : Set) (o : ℕ) where
-  -- the sphere triangle taken for a polar point, with the slots used
-  used-on : (polar : Polar) (u : Used) → Fits s → o < 12 → usedFor ieee (originAt table o) s o polar ≡ answered u → UsedOn table s u
-  unfolding usedFor
-  used-on polar u fits h e =
-      let i = triangleIndex ieee (polar .gamma) in
-      let r = shouldReflect ieee polar in
-      let b = bind-answered (sphereTaken ieee s (originAt table o) (sphereSlot o i r) (sourceSlot i r)) _ u e in
-      subst (UsedOn table s) (answered-same (b .2))
-      (record { fits = fits; origin = h; index = index-below-10 ieee (polar .gamma); taken = b .1; crossed = refl })
-
   -- what checks that passed tell of the set and the origin
   abbrev Told : Type 0
   Told = Fits s × (o < 12)
@@ -101,7 +77,7 @@ module _ (table : List Float) (s : Set) (o : ℕ) where
       let passes = then-answered check _ (work .0) (sym is ∙ work .1) in
       let worked = finish-used core f (work .0) (passes .1) in
       let known = told (passes .0) in
-      used-on polar u (known .0) (known .1) (back (worked .0) (worked .1) ∙ ap answered (worked .2 ∙ work .2))
+      any.used-on ieee table s o polar u (known .0) (known .1) (back (worked .0) (worked .1) ∙ ap answered (worked .2 ∙ work .2))
 
   -- 1, 2, 3, 21, 22 and 4, and then the call's own numbers
   origin-told : (own : Given (Unit {0})) → andThen (testsOn ieee table s o) own ≡ passed → Told
@@ -142,6 +118,11 @@ list-fits s ps results us e =
     let passes = then-answered (checkList ieee (s .table) (s .set) (length ps) results) _ us e in
     subst (UsedAll (s .table) (s .set)) (answered-same (passes .1)) (in-turn-fits (s .table) ps (s .set))
 
+region-fits : (s : Standing) (ps : List LonLat) (points : ℕ) → EffectOn s (uses (usedByRegion ieee (s .table) (s .set) ps points))
+region-fits s ps points us e =
+    let region = bind-answered (regionGiven ieee (s .table) (s .set) ps (length ps) points) _ us e in
+    subst (UsedAll (s .table) (s .set)) (answered-same (region .2)) (in-turn-fits (s .table) ps (s .set))
+
 pub effect-fits : (s : Standing) (c : Call) → EffectOn s (effect s c)
 effect-fits s (opens t) = tt
 effect-fits s (forwards p o) =
@@ -159,5 +140,6 @@ effect-fits s (unplaces f o) =
     call-fits (s .table) (s .set) o _ _ _ ends _ (unplace-is ieee (s .table) (s .set) f o)
     (origin-told (s .table) (s .set) o (checkFace f)) (inverse-used ieee origin (s .set) o f)
 effect-fits s (lists ps results) = list-fits s ps results
+effect-fits s (regions ps points) = region-fits s ps points
 effect-fits s (shows kind k) = tt
 effect-fits s (asks kind k) = tt

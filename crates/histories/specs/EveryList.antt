@@ -22,6 +22,7 @@ use Rattle.stores.specs.Slots.{filled, faceRun, sphereRun}
 use Rattle.dodecahedron.specs.Calls.{forwardOn, inverseOn, placeOn, unplaceOn}
 use Rattle.place_list.specs.Lists.{placeListOn}
 use Rattle.place_list.specs.declared.PlaceResult.{PlaceResult}
+use Rattle.region_work.specs.Region.{regionOn}
 use Rattle.show.specs.declared.StoreKind.{StoreKind}
 use Rattle.histories.specs.Lists.{Standing, standing, Call, opens, shows, asks, Effect, effect, after, step, run}
 use Rattle.histories.specs.Since.{facesUsed, spheresUsed, UsedLast, lastOpened}
@@ -37,6 +38,10 @@ pub record SameAnswers (table : List Float) (s n : Set) : Type 0 where
   pub place-list : (ps : List LonLat) (rs : List PlaceResult)
       → (placeListOn ieee table s ps rs .answer ≡ placeListOn ieee table n ps rs .answer)
       × (placeListOn ieee table s ps rs .left .results ≡ placeListOn ieee table n ps rs .left .results)
+  -- Paper 4: a region's answer, and every point
+  pub region : (ps : List LonLat) (points : List Face)
+      → (regionOn ieee table s ps points .answer ≡ regionOn ieee table n ps points .answer)
+      × (regionOn ieee table s ps points .points ≡ regionOn ieee table n ps points .points)
 
 -- What a call does to the set s changes no number outside the slots that it uses; place i of a store lies in slot i / width.
 pub record Untouched (s : Standing) (e : Effect) : Type 0 where

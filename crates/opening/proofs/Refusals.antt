@@ -29,6 +29,8 @@ use Rattle.dodecahedron.specs.Place.{finitePlace}
 use Rattle.dodecahedron.specs.Work.{Work, answerOf, usedOf, finish}
 use Rattle.frame_data.specs.Claims.{Answers}
 use Rattle.place_list.specs.Lists.{checkCounts}
+use Rattle.place_list.specs.declared.PlaceResult.{PlaceResult}
+use Rattle.region_work.specs.Region.{checkPositions, firstOrigin, allOn, checkOrigins}
 use Rattle.histories.specs.Lists.{alone}
 use Rattle.opening.specs.Refusals.{among, Only}
 
@@ -131,6 +133,14 @@ module _ (ns : List ℕ) where
   pub counts-only : among 14 ns ≡ true → (positions results : ℕ) → Only ns (checkCounts positions results)
   unfolding checkCounts
   counts-only h positions results = only-if (not (eqb positions results)) 14 passed h (only-answered tt)
+
+  pub positions-only : among 15 ns ≡ true → (n : ℕ) → Only ns (checkPositions n)
+  unfolding checkPositions
+  positions-only h n = only-if (eqb n 0 || ltb 256 n) 15 passed h (only-answered tt)
+
+  pub origins-only : among 16 ns ≡ true → (rs : List PlaceResult) → Only ns (checkOrigins rs)
+  unfolding checkOrigins
+  origins-only h rs = only-if (not (allOn (firstOrigin rs) rs)) 16 passed h (only-answered tt)
 
   pub origin-only : among 4 ns ≡ true → (o : ℕ) → Only ns (checkOrigin o)
   unfolding checkOrigin

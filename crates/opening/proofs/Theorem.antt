@@ -1,11 +1,11 @@
 -- Paper 9. Open answers on buffers of the right lengths, since the frame has its 62 rows. By demand 3 a call after a
 -- list answers as on a newly opened set, and there every sphere triangle that it may take is built. Assumes nothing.
 use mathlib.Core.Path.{_≡_, refl, sym, ap, subst, _∙_}
-use mathlib.Core.Bool.{true, true≢false}
+use mathlib.Core.Bool.{true, not, true≢false}
 use mathlib.Core.List.{List, [], _∷_}
 use Prim.Native.Nat.{ℕ, zero, suc, _/_, _%_, _<_}
 use native.Mathlib.Omega.{arith}
-use lib.Dec.{leb}
+use lib.Dec.{eqb, leb}
 use lib.ListN.{length, getD}
 use lib.Ieee.{Float, ofBits}
 use Rattle.answer.specs.Given.{Given, answered, refused}
@@ -14,19 +14,22 @@ use Rattle.arithmetic.specs.Arith.{ieee}
 use Rattle.origin.specs.Origins.{ORIGINS}
 use Rattle.crs.specs.Frame.{frameRows}
 use Rattle.set.specs.Set.{Set}
+use Rattle.set.specs.Checks.{checkWith}
 use Rattle.set.proofs.Lengths.{Fits, set-passes}
 use Rattle.set.specs.Open.{openGiven}
 use Rattle.set.proofs.Opening.{open-opened, built-in-check}
 use Rattle.stores.specs.Used.{usedWritten, allWritten}
 use Rattle.stores.specs.declared.used.Used.{Used}
 use Rattle.dodecahedron.specs.Calls.{forwardGiven, inverseGiven, placeGiven, unplaceGiven}
-use Rattle.histories.specs.Lists.{Standing, standing, Call, opens, forwards, inverses, places, unplaces, lists, shows, asks, Effect, writes, uses, reads, effect, after, step, run}
+use Rattle.histories.specs.Lists.{Standing, standing, Call, opens, forwards, inverses, places, unplaces, lists, regions, shows, asks, Effect, writes, uses, reads, effect, after, step, run}
 use Rattle.coordinates.specs.declared.lonlat.LonLat.{LonLat}
 use Rattle.dodecahedron.specs.Calls.{placeOn}
 use Rattle.dodecahedron.specs.declared.place.Place.{Place}
-use Rattle.place_list.specs.Lists.{checkList, resultOf}
+use Rattle.place_list.specs.Lists.{checkCounts, checkList, resultOf, placedInTurn}
 use Rattle.place_list.specs.declared.PlaceResult.{PlaceResult}
 use Rattle.place_list.specs.Uses.{usedByList}
+use Rattle.region_work.specs.Region.{checkPositions, firstFailing, checkOrigins, regionGiven}
+use Rattle.region_work.specs.Uses.{usedByRegion}
 use Rattle.histories.specs.Defined.{sphereDefined}
 use Rattle.histories.specs.EveryList.{opened, left}
 use Rattle.histories.specs.BuiltIn.{BuiltIn}
@@ -39,7 +42,7 @@ use Rattle.frame_data.proofs.Frame.{frame-is}
 use Rattle.frame_data.proofs.Triangles.{all-built}
 use Rattle.opening.specs.Opening.{RightLengths, OpenAnswers, RefusedWith, InForce, Never8, EverySlot, ConstantRows, KnownFrame, Demand3ByLengths}
 use Rattle.opening.specs.Refusals.{among, Only, FORWARD-REFUSALS, INVERSE-REFUSALS, PLACE-REFUSALS, CALL-REFUSALS, RefusalsLeft}
-use Rattle.opening.proofs.Refusals.{Within, among-within, answer-refused, only-passed, only-answered, only-then, counts-only}
+use Rattle.opening.proofs.Refusals.{Within, among-within, answer-refused, only-passed, only-answered, only-if, only-then, only-bind, counts-only, positions-only, origins-only}
 use Rattle.opening.proofs.Fresh.{rows-long, fresh-left}
 
 -- ---- open
@@ -90,6 +93,16 @@ place-within : Within PLACE-REFUSALS CALL-REFUSALS
 unfolding among
 place-within = (refl, (refl, (refl, tt)))
 
+-- the first of some positions, placed by themselves, that fails: with a number of place
+failing-only : (n : Set) → RefusalsLeft n → (ps : List LonLat) → Only CALL-REFUSALS (firstFailing (each ORIGINS n ps))
+failing-only n only [] = only-answered CALL-REFUSALS tt
+failing-only n only (p ∷ ps) = by (placeOn ieee ORIGINS n p .answer) refl (failing-only n only ps)
+  where
+    by : (g : Given Place) → placeOn ieee ORIGINS n p .answer ≡ g → Only CALL-REFUSALS (firstFailing (each ORIGINS n ps))
+        → Only CALL-REFUSALS (firstFailing (resultOf g ∷ each ORIGINS n ps))
+    by (answered q) is rest = rest
+    by (refused m) is rest = only-if CALL-REFUSALS (not (eqb m 0)) m _ (among-within m PLACE-REFUSALS CALL-REFUSALS place-within (only .place p m is)) rest
+
 opened-framed : (b : Set) → RightLengths b → Framed (opened ORIGINS b)
 opened-framed b l = rw (open-answers b l)
 
@@ -125,6 +138,27 @@ module _ (b : Set) (l : RightLengths b) (cs : List Call) (is : InForce b cs) whe
       let checks = only-then ns _ _ (only-passed ns (built-in-check s ∙ set-passes s fits)) (λ set. counts-only ns refl (length ps) results) in
       only-then ns _ _ checks (λ counts. only-answered ns _)
 
+  -- a region is refused for how many positions it has, for its point places, for a position of its own, or for two faces
+  region-only : (ps : List LonLat) (points : ℕ) → Only CALL-REFUSALS (usedByRegion ieee ORIGINS s ps points)
+  unfolding regionGiven among
+  region-only ps points =
+      let ns = CALL-REFUSALS in
+      let n = length ps in
+      let rs = placedInTurn ieee ORIGINS s ps .results in
+      let fits : Fits s = record { frame = lengths-after .frame; faces = lengths-after .faces; spheres = lengths-after .spheres } in
+      let ready = open-answers b l in
+      let there : RefusalsLeft (opened ORIGINS b .set) = rw ready fresh-left in
+      let same = results-built-in b ready cs is b ready ps in
+      let failing = subst (λ (qs : List PlaceResult). Only ns (firstFailing qs)) (sym same) (failing-only _ there ps) in
+      only-bind ns (regionGiven ieee ORIGINS s ps n points) _
+      (only-then ns (checkWith ieee ORIGINS s) _ (only-passed ns (built-in-check s ∙ set-passes s fits)) λ set.
+      only-then ns (checkPositions n) _ (positions-only ns refl n) λ positions.
+      only-then ns (checkCounts n points) _ (counts-only ns refl n points) λ counts.
+      only-then ns (firstFailing rs) _ failing λ all.
+      only-then ns (checkOrigins rs) _ (origins-only ns refl rs) λ origins.
+      only-answered ns _)
+      (λ r. only-answered ns _)
+
   -- whichever call comes next, open with the built-in table included
   pub call-left : (c : Call) → BuiltIn c → (n : ℕ) → RefusedWith n (effect (standing ORIGINS s) c) → among n CALL-REFUSALS ≡ true
   call-left (opens table) built-in n e =
@@ -143,6 +177,7 @@ module _ (b : Set) (l : RightLengths b) (cs : List Call) (is : InForce b cs) whe
       let mine = refusals-left .unplace f o n (answer-refused (unplaceGiven ieee ORIGINS s f o) n e) in
       among-within n INVERSE-REFUSALS CALL-REFUSALS inverse-within mine
   call-left (lists ps results) built-in n e = list-only ps results n e
+  call-left (regions ps points) built-in n e = region-only ps points n e
   call-left (shows kind k) built-in n e = absurd e
   call-left (asks kind k) built-in n e = absurd e
 

@@ -1,24 +1,22 @@
 -- Placing keeps the lengths of the set's buffers, whatever they hold; so 1, 2 and 3 are the same before and after a list. Assumes nothing.
-use mathlib.Core.Path.{_≡_, refl, sym, ap, _∙_}
+use mathlib.Core.Path.{_≡_, refl, _∙_}
 use mathlib.Core.Bool.{Bool, true, false, cond}
 use mathlib.Core.List.{List, [], _∷_}
-use Prim.Native.Nat.{ℕ, suc, _+_, _*_, _<_, _≤_}
+use Prim.Native.Nat.{ℕ, _<_}
 use native.Mathlib.Omega.{arith}
 use lib.Ieee.{Float}
 use lib.ListN.{length}
 use Rattle.answer.specs.Given.{Given, answered, refused}
 use Rattle.arithmetic.specs.Arith.{Arith}
-use Rattle.arithmetic.specs.Numbers.{1·0}
 use Rattle.coordinates.specs.declared.lonlat.LonLat.{LonLat}
 use Rattle.set.specs.Set.{Set, checkSet}
 use Rattle.set.specs.Sizes.{FACE-SLOTS, FACE-WIDTH, FACE-STORE, SPHERE-WIDTH}
 use Rattle.set.proofs.Lengths.{call-passed}
-use Rattle.stores.specs.Slots.{filled, put, slotWritten, faceSlot, sourceSlot}
+use Rattle.stores.specs.Slots.{faceSlot, sourceSlot}
 use Rattle.stores.specs.Used.{faceWritten, facesWritten, sphereWritten, usedWritten, hasSlots, writtenIfThere}
 use Rattle.stores.specs.declared.used.Used.{Used}
-use Rattle.stores.proofs.Runs.{length-put}
+use Rattle.stores.proofs.Written.{written-length}
 use Rattle.stores.proofs.Within.{face-below, source-below, sphere-below, has-slots}
-use Rattle.dodecahedron.specs.Place.{finitePlace}
 use Rattle.dodecahedron.specs.Work.{Work, usedOf, setUsed}
 use Rattle.dodecahedron.specs.Calls.{placeGiven, placeOn}
 use Rattle.dodecahedron.specs.declared.place.Place.{Place}
@@ -36,20 +34,10 @@ unchanged s = record { frame = refl; faces = refl; spheres = refl }
 then-same : {u t s : Set} → SameLengths u t → SameLengths t s → SameLengths u s
 then-same a b = record { frame = a .frame ∙ b .frame; faces = a .faces ∙ b .faces; spheres = a .spheres ∙ b .spheres }
 
--- ---- a slot that lies in its store
-slot-length : (w : ℕ) (xs : List Float) (k : ℕ) (ys : List Float) → suc (length ys) ≡ w → k * w + w ≤ length xs
-    → length (slotWritten w xs k ys) ≡ length xs
-unfolding slotWritten
-slot-length w xs k ys size fits = by-mark (filled xs (k * w))
-  where
-    by-mark : (b : Bool) → length (cond b xs (put xs (k * w) (1·0 ∷ ys))) ≡ length xs
-    by-mark true = refl
-    by-mark false = length-put xs (k * w) (1·0 ∷ ys) (omega arith)
-
 module _ (A : Arith) where
   face-length : (xs : List Float) (k : ℕ) → length xs ≡ FACE-STORE → k < FACE-SLOTS → length (faceWritten A xs k) ≡ length xs
   unfolding faceWritten
-  face-length xs k long below = slot-length FACE-WIDTH xs k _ refl (omega arith)
+  face-length xs k long below = written-length FACE-WIDTH xs k _ refl (omega arith)
 
   faces-length : (xs : List Float) (i : ℕ) (r : Bool) → length xs ≡ FACE-STORE → i < 10 → length (facesWritten A xs i r) ≡ length xs
   faces-length xs i false long h = face-length xs (faceSlot i false) long (face-below i false h)
@@ -68,7 +56,7 @@ module _ (A : Arith) where
         record {
           frame = refl;
           faces = faces-length (s .faces) (u .index) (u .reflected) (fits .0 .faces) (slots .1);
-          spheres = slot-length SPHERE-WIDTH (s .spheres) _ _ refl (omega (arith, below, long));
+          spheres = written-length SPHERE-WIDTH (s .spheres) _ _ refl (omega (arith, below, long));
         }
 
     written-lengths : SameLengths (writtenIfThere A s u) s

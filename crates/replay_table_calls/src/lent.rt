@@ -4,9 +4,7 @@ use set::sizes::FACE_STORE;
 use set::sizes::FRAME;
 use set::sizes::SPHERE_STORE;
 
-// The last number of a call that is lent a whole set; then open, any call on buffers of other lengths, and nearest.
-const UNPLACE: u8 = 4;
-
+// After the four calls that are lent a whole set: open, any of the four on buffers of other lengths, and nearest.
 pub const OPEN: u8 = 5;
 
 const LENT: u8 = 6;

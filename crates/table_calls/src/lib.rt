@@ -141,7 +141,7 @@ pub fn inverse_with(
 }
 
 // What place gives, with nothing written yet.
-fn place_work_with(
+pub fn place_work_with(
     table: &[f64; 84],
     frame: &[f64],
     face_store: &[f64],

@@ -2,7 +2,7 @@
 
 use crate::outcome::{show, Outcome};
 
-pub const CALLS: [&str; 25] = [
+pub const CALLS: [&str; 27] = [
     "open",
     "forward",
     "inverse",
@@ -28,6 +28,8 @@ pub const CALLS: [&str; 25] = [
     "table_load",
     "table_save",
     "place_list_with",
+    "region",
+    "region_with",
 ];
 pub const OPEN: usize = 0;
 // the four calls on a set follow in the order of the enum
@@ -49,6 +51,8 @@ pub const NEAREST_WITH: usize = 21;
 pub const TABLE_LOAD: usize = 22;
 pub const TABLE_SAVE: usize = 23;
 pub const PLACE_LIST_WITH: usize = 24;
+pub const REGION: usize = 25;
+pub const REGION_WITH: usize = 26;
 
 #[derive(Clone, Copy, PartialEq)]
 pub enum Where {

@@ -10,6 +10,7 @@ use crate::foreign;
 use crate::foreign_sets;
 use crate::library::Library;
 use crate::outcome::Outcome;
+use crate::regions::Regions;
 use crate::roots::Roots;
 use crate::script::Script;
 use crate::set::Set;
@@ -124,6 +125,7 @@ struct Run {
     turns: Turns,
     roots: Roots,
     tables: Tables,
+    regions: Regions,
 }
 
 impl Run {
@@ -145,6 +147,7 @@ impl Run {
             turns: Turns::new(seed, library(Where::Alone)),
             roots: Roots::new(seed, library(Where::Alone)),
             tables: Tables::new(library),
+            regions: Regions::new(library),
         }
     }
 
@@ -180,6 +183,7 @@ impl Run {
         self.turns.any();
         self.roots.any();
         self.tables.turn(&mut self.draw, turn);
+        self.regions.turn(&mut self.draw, turn);
     }
 }
 
@@ -204,6 +208,7 @@ pub fn run(n: u64, seed: u64, spoil: Option<Spoil>) {
     counts.add(&run.turns.counts);
     counts.add(&run.roots.counts);
     counts.add(&run.tables.counts);
+    counts.add(&run.regions.counts);
     for script in [&run.kept, &run.opened, &run.foreign] {
         counts.add(&script.counts);
     }

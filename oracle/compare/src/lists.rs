@@ -3,6 +3,7 @@
 // the sets of `tables`.
 
 use crate::calls::Place;
+use crate::common::fields::whole;
 use crate::common::sizes::RIGHT;
 use crate::counts::{Where, PLACE_LIST, PLACE_LIST_WITH};
 use crate::draw::Draw;
@@ -12,7 +13,6 @@ use crate::outcome::{Outcome, BEFORE};
 use crate::raw;
 use crate::script::Script;
 use crate::set::Set;
-use crate::common::fields::whole;
 
 // So many lists, more or less, and one of hundreds.
 const A_LONG_ONE: i64 = 200;
@@ -66,7 +66,12 @@ impl Library {
         let mut held = vec![before; results + 1];
         let [frame, face, sphere] = &mut buffers.numbers;
         let (frame, face, sphere) = (frame.as_ptr(), face.as_mut_ptr(), sphere.as_mut_ptr());
-        let (p, n, r, m) = (positions.as_ptr(), positions.len(), held.as_mut_ptr(), results);
+        let (p, n, r, m) = (
+            positions.as_ptr(),
+            positions.len(),
+            held.as_mut_ptr(),
+            results,
+        );
         let [a, b, c] = lent;
         let (list, list_with) = (raw::a5_place_list, raw::a5_place_list_with);
         let (call, status) = match table.map(|rows| (rows.as_ptr(), rows.len())) {

@@ -41,6 +41,9 @@ mod plain;
 mod raw;
 #[path = "../../calls/src/refused.rs"]
 mod refused;
+#[path = "../../regions/src/regions.rs"]
+mod region_oracle;
+mod regions;
 #[path = "../../roots/src/inputs.rs"]
 mod root_inputs;
 mod roots;

@@ -20,7 +20,10 @@ pub fn lon_lat_of(p: [f64; 2]) -> Position {
 // Evenly over the globe.
 pub fn globe(g: &mut Generator) -> Position {
     let z = g.between(-1.0, 1.0);
-    [g.between(-180.0, 180.0), atan(z / sqrt(1.0 - z * z)) / PI * 180.0]
+    [
+        g.between(-180.0, 180.0),
+        atan(z / sqrt(1.0 - z * z)) / PI * 180.0,
+    ]
 }
 
 // 5 and 6 of either number, both, and the ends of the ranges, which are placed.

@@ -1,6 +1,6 @@
 // The parts of the list.
 
-use crate::common::arguments::all_lengths;
+use crate::common::arguments::{all_lengths, other_numbers};
 use crate::common::generator::Generator;
 use crate::common::places::rows;
 use crate::common::sizes::{RIGHT, SPHERE_COORDINATES};
@@ -17,7 +17,10 @@ pub fn opened(s: &mut Script, g: &mut Generator) {
         s.place_list(&[position], 1, RIGHT);
     }
     for slot in [0, 37, 119] {
-        let two = [in_triangle(g, &s.defined, slot), in_triangle(g, &s.defined, slot)];
+        let two = [
+            in_triangle(g, &s.defined, slot),
+            in_triangle(g, &s.defined, slot),
+        ];
         s.open();
         s.place_list(&two, 2, RIGHT);
     }
@@ -25,7 +28,9 @@ pub fn opened(s: &mut Script, g: &mut Generator) {
         s.open();
         s.place_list(&several(g, count), count, RIGHT);
     }
-    let every: Vec<[f64; 2]> = (0..120).map(|slot| in_triangle(g, &s.defined, slot)).collect();
+    let every: Vec<[f64; 2]> = (0..120)
+        .map(|slot| in_triangle(g, &s.defined, slot))
+        .collect();
     s.open();
     s.place_list(&every, 120, RIGHT);
     s.open();
@@ -58,16 +63,6 @@ pub fn refused(s: &mut Script, g: &mut Generator) {
     s.place_list(&list, 16, RIGHT);
 }
 
-fn other_numbers(g: &mut Generator, x: &[f64], turn: usize) -> Vec<f64> {
-    match turn {
-        0 => x.iter().map(|x| x + g.between(-1e-7, 1e-7)).collect(),
-        1 => x.iter().map(|x| 2.0 * x).collect(),
-        2 => x.iter().map(|_| g.between(-1.0, 1.0)).collect(),
-        3 => x.iter().map(|x| if *x < 0.0 { f64::NAN } else { *x }).collect(),
-        _ => vec![0.0; x.len()],
-    }
-}
-
 // Foreign contents: a face slot, from which the first position builds its sphere triangle that those after it read; a sphere slot with
 // its own b × c and with another, which all of them read as it stands; marks that are none, so that the first writes what the others
 // read; a row of the frame. Between them stand positions in other triangles, and refused ones.
@@ -80,7 +75,11 @@ pub fn foreign(s: &mut Script, g: &mut Generator) {
             list.insert(at, in_triangle(g, &s.defined, slot));
         }
         let own_face = s.defined.face_slot(face).expect("all are filled").to_vec();
-        let own_sphere = s.defined.sphere_slot(slot).expect("all are filled").to_vec();
+        let own_sphere = s
+            .defined
+            .sphere_slot(slot)
+            .expect("all are filled")
+            .to_vec();
         s.open();
         match turn / 5 {
             0 => s.put_face(face, 1.0, &other_numbers(g, &own_face, kind)),

@@ -4,7 +4,6 @@
 use crate::calls::{self, Place};
 use crate::common::fields::{bits, whole};
 use crate::common::list::List;
-use crate::common::refusals::lengths;
 use crate::common::sizes::{FACE_SLOTS, FACE_WIDTH, RIGHT, SPHERE_SLOTS, SPHERE_WIDTH};
 use crate::lists::{self, Placed};
 use crate::notes::{self, DEFINED_AT, FACE_AT, SPHERE_AT};
@@ -132,10 +131,15 @@ impl Script {
 
     // Every result that is lent, and the one behind.
     fn results(&mut self, results: &[Placed]) {
-        let behind = if results.len() < MOST { &[BEFORE][..] } else { &[] };
+        let behind = if results.len() < MOST {
+            &[BEFORE][..]
+        } else {
+            &[]
+        };
         for (k, result) in results.iter().chain(behind).enumerate() {
             let answers = [whole(result.origin as usize), result.x, result.y];
-            self.list.record(RESULT, result.refusal, &[whole(k)], &answers);
+            self.list
+                .record(RESULT, result.refusal, &[whole(k)], &answers);
         }
     }
 
@@ -168,7 +172,6 @@ impl Script {
             Ok(()) => self.list.answered(PLACE_LIST, &arguments, &[]),
             Err(refusal) => self.list.refused(PLACE_LIST, refusal, &arguments),
         }
-        assert_eq!(lengths(lent).is_err(), matches!(given, Err(1..=3)));
         self.results(&results);
         results
     }

@@ -25,7 +25,10 @@ fn singly() {
     let mut results = [BEFORE; 3];
     assert_eq!(listed(&mut set, &positions, &mut results), Ok(()));
     let [first, second, third] = results;
-    assert_eq!((first.refusal, first.origin, first.x, first.y), (0, 0, 0.0, 0.0));
+    assert_eq!(
+        (first.refusal, first.origin, first.x, first.y),
+        (0, 0, 0.0, 0.0)
+    );
     assert_eq!((second.refusal, second.origin), (5, 0));
     assert_eq!(bits(&[second.x, second.y]), [0, 0]);
     assert_eq!(third.refusal, 0);

@@ -1,7 +1,7 @@
 // The parts of the list.
 
 use crate::calls::{Call, Forward, Inverse, Place, Unplace};
-use crate::common::arguments::{all_lengths, pairs};
+use crate::common::arguments::{all_lengths, other_numbers, pairs};
 use crate::common::fields::whole;
 use crate::common::generator::Generator;
 use crate::common::refusals::{FACE_LIMITS, LON_LAT_LIMITS, SPHERICAL_LIMITS};
@@ -96,7 +96,10 @@ pub fn refused_arguments(s: &mut Script) {
     let limits = [SPHERICAL_LIMITS, FACE_LIMITS, LON_LAT_LIMITS, FACE_LIMITS];
     for (call, limits) in CALLS.into_iter().zip(limits) {
         let edges = |limit: f64| [limit, moved(-limit, 1), f64::NAN, f64::NEG_INFINITY];
-        for (turn, p) in pairs(&edges(limits[0]), &edges(limits[1])).into_iter().enumerate() {
+        for (turn, p) in pairs(&edges(limits[0]), &edges(limits[1]))
+            .into_iter()
+            .enumerate()
+        {
             let id = if turn % 8 == 7 { 12 } else { turn % 12 };
             let _ = s.call(3, call, &asked(call, p, id));
             if call == Forward {
@@ -136,46 +139,39 @@ const FAR: [[f64; 2]; 3] = [
     [-1.134423674, 0.541134446],
 ];
 
-fn other_numbers(g: &mut Generator, x: &[f64], turn: usize) -> Vec<f64> {
-    match turn {
-        0 => x.iter().map(|x| x + g.between(-1e-7, 1e-7)).collect(),
-        1 => x.iter().map(|x| 2.0 * x).collect(),
-        2 => x.iter().map(|_| g.between(-1.0, 1.0)).collect(),
-        3 => x.iter().map(|x| if *x < 0.0 { f64::NAN } else { *x }).collect(),
-        _ => vec![0.0; x.len()],
+// What foreign hands write into an opened set, by turns: another face slot, another sphere slot with the b × c that stood there and with
+// that of its own b and c, a mark that is none with a row of the frame. The slots' own numbers are what an answered inverse leaves there.
+fn write(s: &mut Script, g: &mut Generator, table: usize, target: &Target, turn: usize) {
+    let (face, sphere) = target.slots();
+    let _ = s.open(table, RIGHT);
+    let _ = at(s, g, table, Inverse, target);
+    let numbers = |slot: Option<&[f64]>, n: usize| slot.map_or(vec![0.5; n], <[f64]>::to_vec);
+    let own_face = numbers(s.set.face_slot(face), 6);
+    let own_sphere = numbers(s.set.sphere_slot(sphere), SPHERE_COORDINATES + 3);
+    let _ = s.open(table, RIGHT);
+    let kind = turn % 5;
+    match turn / 5 {
+        0 => s.put_face(face, 1.0, &other_numbers(g, &own_face, kind)),
+        1 => s.put_sphere(sphere, 1.0, &other_numbers(g, &own_sphere, kind)),
+        2 => {
+            let corners = other_numbers(g, &own_sphere[..SPHERE_COORDINATES], kind);
+            s.put_sphere(sphere, 1.0, &with_cross_product(&corners));
+        }
+        _ => {
+            let mark = [2.0, f64::NAN, moved(1.0, 1), -0.0, -1.0][kind];
+            s.put_sphere(sphere, mark, &other_numbers(g, &own_sphere, 2));
+            let other = [0.0, f64::NAN, 0.6][turn % 3];
+            s.put_row([0, 32, 12, 20, 45][kind], [other, 0.0, 0.8]);
+        }
     }
 }
 
-// Foreign contents on a set that was opened with a table: a mark that is none, a face slot, a sphere slot with its own b × c and with
-// another, rows of the frame.
+// Foreign contents on sets that were opened with a table, called with that and with another; sets filled with one number.
 pub fn foreign(s: &mut Script, g: &mut Generator, table: usize) {
     for turn in 0..20 {
         let call = CALLS[turn % 4];
         let target = Target::in_triangle(g, turn % 12, 7 * turn % 10, turn % 5 == 0);
-        let (face, sphere) = target.slots();
-        let _ = s.open(table, RIGHT);
-        // what an answered call would leave there, where it answers
-        let _ = at(s, g, table, Inverse, &target);
-        let numbers = |slot: Option<&[f64]>, n: usize| slot.map_or(vec![0.5; n], <[f64]>::to_vec);
-        let own_face = numbers(s.set.face_slot(face), 6);
-        let own_sphere = numbers(s.set.sphere_slot(sphere), SPHERE_COORDINATES + 3);
-        let _ = s.open(table, RIGHT);
-        let kind = turn % 5;
-        match turn / 5 {
-            0 => s.put_face(face, 1.0, &other_numbers(g, &own_face, kind)),
-            1 => s.put_sphere(sphere, 1.0, &other_numbers(g, &own_sphere, kind)),
-            2 => {
-                let corners = other_numbers(g, &own_sphere[..SPHERE_COORDINATES], kind);
-                s.put_sphere(sphere, 1.0, &with_cross_product(&corners));
-            }
-            _ => {
-                let mark = [2.0, f64::NAN, moved(1.0, 1), -0.0, -1.0][kind];
-                s.put_sphere(sphere, mark, &other_numbers(g, &own_sphere, 2));
-                let row = [0, 32, 12, 20, 45][kind];
-                let other = [0.0, f64::NAN, 0.6][turn % 3];
-                s.put_row(row, [other, 0.0, 0.8]);
-            }
-        }
+        write(s, g, table, &target, turn);
         let _ = at(s, g, table, call, &target);
         let other = (table + turn) % s.tables.pass;
         let _ = at(s, g, other, call, &target);
@@ -201,6 +197,12 @@ pub fn in_turn(s: &mut Script, g: &mut Generator) {
             }
         }
         let target = Target::any(g);
-        let _ = at(s, g, last, [Place, Unplace, Forward, Inverse][turn % 4], &target);
+        let _ = at(
+            s,
+            g,
+            last,
+            [Place, Unplace, Forward, Inverse][turn % 4],
+            &target,
+        );
     }
 }

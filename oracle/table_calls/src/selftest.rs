@@ -25,7 +25,10 @@ fn outcomes() {
         .iter()
         .map(|rows| table(rows).expect_err("a fault"))
         .collect();
-    assert_eq!(refused, [21, 21, 21, 21, 21, 21, 21, 21, 21, 22, 22, 22, 22, 21]);
+    assert_eq!(
+        refused,
+        [21, 21, 21, 21, 21, 21, 21, 21, 21, 22, 22, 22, 22, 21]
+    );
 }
 
 pub fn run() {

@@ -76,7 +76,11 @@ fn by_other_numbers(rows: &Rows) -> Rows {
         if k % 2 == 0 {
             row[2..6].iter_mut().for_each(|x| *x = -*x);
         }
-        row[0] += if row[0] > 0.0 { -TWO_PI.get() } else { TWO_PI.get() };
+        row[0] += if row[0] > 0.0 {
+            -TWO_PI.get()
+        } else {
+            TWO_PI.get()
+        };
         row[6] += TWO_PI_OVER_5.get() * (5.0 - k as f64);
     }
     rows
@@ -129,7 +133,9 @@ fn opening(g: &mut Generator) -> Vec<Rows> {
         exchanged(&some, 2, 7, 2),
         with(&own, 1, 0.25),
         nearly,
-        own.iter().map(|x| if *x == 0.0 { -0.0 } else { *x }).collect(),
+        own.iter()
+            .map(|x| if *x == 0.0 { -0.0 } else { *x })
+            .collect(),
     ]
 }
 

@@ -1,0 +1,3 @@
+-- What the walks of this crate share.
+pub mod Told
+pub mod Calls

@@ -1,0 +1,6 @@
+-- What the walks of this crate share.
+pub mod Arrays
+pub mod Copied
+pub mod Counted
+pub mod Calls
+pub mod Whole
