@@ -1,18 +1,19 @@
 /*
  * Twelve faces for regional maps: the calls of the proved library, for C and C++ on x86-64.
  *
- * Link with liba5faces.a, which `bindings/library` writes: -la5faces.
+ * Link with -la5faces: liba5faces.a, which `bindings/library` writes, or what `bindings/install` installs
+ * (`pkg-config --libs a5faces`).
  *
  * A call that can be refused returns A5_ANSWERED (0), or the number of its refusal. a5_box_new, a5_window_new and
  * a5_window_counts are never refused and return nothing; a5_window_kept, a5_sqrt and a5_sqrt_rounds return their number.
  * An answer goes to the memory that is lent for it (to, id, results, points, origin, filled, part, box, grants, window, counts,
- * page, table, bytes). A refused call leaves everything lent as it was, bit for bit. Any number may be passed: what is outside the limits is refused,
- * and every call ends.
+ * page, table, bytes, block). A refused call leaves everything lent as it was, bit for bit. Any number may be passed: what is
+ * outside the limits is refused, and every call ends.
  *
  * A set is three buffers of double that the caller owns: the frame, the face store and the sphere store. It is lent to
  * each call, each buffer as a pointer and how many numbers there are. a5_open makes it ready; forward, inverse, place,
- * unplace, a list of places and a region read it and fill slots of the stores, so that later calls are quicker. Their answers do not depend on
- * which calls came before, as long as nothing else writes to the set and each call has the table that the set was last
+ * unplace, a list of places, a region and a panel's step read it and fill slots of the stores, so that later calls are
+ * quicker. Their answers do not depend on which calls came before, as long as nothing else writes to the set and each call has the table that the set was last
  * opened with: the functions without a table have the built-in one, as a5_open has. The library keeps nothing between
  * calls and allocates nothing.
  *
@@ -69,8 +70,9 @@ extern "C" {
 #define A5_KIND_SPHERE 1
 
 /* What a call returns. Where several refusals apply, the one with the lowest number is given, except that each number
- * passed is tried for 5 and then 6 before the next one, and 19 is tried after 8 and before 9. A call with a table tries 20
- * first of all, and 21 and 22 right after 3. */
+ * passed is tried for 5 and then 6 before the next one, 19 is tried after 8 and before 9, a region tries 15 and then 14 before
+ * its positions, which it tries one by one, and a panel's step tries 23 before 1. A call with a table tries 20 first of all, and
+ * 21 and 22 right after 3. */
 enum a5_status {
     A5_ANSWERED = 0,
     A5_REFUSED_FRAME_LENGTH = 1,        /* the frame isn't A5_FRAME long */
@@ -83,7 +85,8 @@ enum a5_status {
     A5_REFUSED_NO_VERTEX = 8,           /* a triangle that must be built has no frame vertex: not an opened set, or a table whose triangles are not in the frame */
     A5_REFUSED_ANSWER_NOT_FINITE = 9,   /* the answer would have a number that isn't finite */
     A5_REFUSED_UNKNOWN_SLOT = 10,       /* no such slot: 30 or more (face), 240 or more (sphere) */
-    /* These three are the strike program's. No function here returns them. */
+    /* These three are the strike program's. No function here returns them; 12 is also what a panel's byte 5 has for another
+     * command. */
     A5_REFUSED_HEADER = 11,      /* the input's header is missing, wrong or short */
     A5_REFUSED_RECORD_KIND = 12, /* a record's kind isn't 1 or 2, or kind 1 with a non-zero origin byte */
     A5_REFUSED_CUT_OFF = 13,     /* the input ends inside a record */
@@ -173,9 +176,9 @@ typedef struct {
 
 /* A region on one face, with the built-in table, on a set that a5_open has opened: a channel's outline of 1 to A5_REGION
  * positions, which must all have the same nearest origin. That origin goes to origin, the face point of each position to
- * points, in their order, and the smallest box round the points to box, which is then not empty; a point may lie beyond 4.
+ * points, in their order, and the smallest box round the points to box, which is then not empty; no limit of 4 is put on the points.
  * The set is left as after a5_place of the positions in turn. Otherwise nothing is written and the set is as it was. What
- * stood in points, origin and box does not matter. Refusals: 1, 2, 3, 15, 14, then the number of the first position that
+ * stood in points, origin and the box's sides does not matter. Refusals: 1, 2, 3, 15, 14, then the number of the first position that
  * a5_place would refuse (5, 6, 8, 9), also where an earlier pair of positions has different origins, and last 16. */
 uint8_t a5_region(const double *frame, size_t frame_length, double *face, size_t face_length, double *sphere,
                   size_t sphere_length, const a5_position *positions, size_t positions_length, a5_point *points,
@@ -257,6 +260,45 @@ uint8_t a5_table_load(const uint8_t *bytes, size_t n, double table[A5_TABLE]);
 /* Writes the file of a table, which a5_table_load reads back, to A5_TABLE_FILE bytes. Refusals: 20, also where there are not so
  * many bytes, 21, 22; the bytes then stay as they were. */
 uint8_t a5_table_save(const double *table, size_t table_length, uint8_t *bytes, size_t n);
+
+/* The caption panel: 32 bytes of registers, through which a panel reaches a set. By their places:
+ *  0       the command: 0 nothing, 1 place, 2 unplace
+ *  1       the status: bit 0 done, bit 1 refused
+ *  2       the mask of those two bits
+ *  3       the interrupt line: 1 where status and mask share bit 0 or bit 1, else 0
+ *  4       the origin: unplace's own, and where an answered place leaves its answer's
+ *  5       the number of the refusal
+ *  8 to 15 two signed 32-bit inputs, big-endian: longitude and latitude in 1e-7 degree, or x and y in 1e-9
+ * 16 to 31 two doubles, big-endian: x and y, or longitude and latitude in degrees
+ * Bytes 6 and 7 are not used. */
+#define A5_BLOCK 32
+#define A5_PANEL_COMMAND 0
+#define A5_PANEL_STATUS 1
+#define A5_PANEL_MASK 2
+#define A5_PANEL_INTERRUPT 3
+#define A5_PANEL_ORIGIN 4
+#define A5_PANEL_REFUSAL 5
+#define A5_PANEL_INPUTS 8
+#define A5_PANEL_RESULTS 16
+
+#define A5_COMMAND_NOTHING 0
+#define A5_COMMAND_PLACE 1
+#define A5_COMMAND_UNPLACE 2
+
+#define A5_PANEL_DONE 1
+#define A5_PANEL_REFUSED 2
+
+/* Panel step: carries out the command in the block, on the set, and sets byte 0 to 0; with command 0 only the interrupt byte is
+ * worked out anew. After a command the status is exactly 1 or 2, and the interrupt byte is that of this status. Done writes both
+ * results and clears byte 5, and an answered place writes the origin byte; what place or unplace refuses, and 12 for another
+ * command, stands in byte 5, and then origin and results stay; the step itself then returns 0. No step alters byte 2 or bytes 6
+ * to 15. Refusals of the step itself, which leave the block and the set: 23, 1, 2, 3. */
+uint8_t a5_panel_step(const double *frame, size_t frame_length, double *face, size_t face_length, double *sphere,
+                      size_t sphere_length, uint8_t *block, size_t n);
+
+/* Panel step with a table. Refusals of the step itself: 20, 23, 1, 2, 3, 21, 22. */
+uint8_t a5_panel_step_with(const double *table, size_t table_length, const double *frame, size_t frame_length, double *face,
+                           size_t face_length, double *sphere, size_t sphere_length, uint8_t *block, size_t n);
 
 /* Makes the box a new one, whatever stood there: empty, with sides 0.0. */
 void a5_box_new(a5_box *box);

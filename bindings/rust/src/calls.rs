@@ -413,6 +413,56 @@ pub fn unplace_with(
     })
 }
 
+/// A step of a [`Panel`](crate::Panel)'s registers, of which there must be [`BLOCK`](crate::BLOCK): what is refused here is the step
+/// itself, and then the registers stay as they were.
+#[inline]
+pub fn panel_step(
+    frame: &[f64],
+    face: &mut [f64],
+    sphere: &mut [f64],
+    block: &mut [u8],
+) -> Result<(), Refusal> {
+    let status = unsafe {
+        raw::a5_panel_step(
+            frame.as_ptr(),
+            frame.len(),
+            face.as_mut_ptr(),
+            face.len(),
+            sphere.as_mut_ptr(),
+            sphere.len(),
+            block.as_mut_ptr(),
+            block.len(),
+        )
+    };
+    given(status, ())
+}
+
+/// [`panel_step`] with the origins of a table.
+#[inline]
+pub fn panel_step_with(
+    table: &[f64],
+    frame: &[f64],
+    face: &mut [f64],
+    sphere: &mut [f64],
+    block: &mut [u8],
+) -> Result<(), Refusal> {
+    let status = unsafe {
+        raw::a5_panel_step_with(
+            table.as_ptr(),
+            table.len(),
+            frame.as_ptr(),
+            frame.len(),
+            face.as_mut_ptr(),
+            face.len(),
+            sphere.as_mut_ptr(),
+            sphere.len(),
+            block.as_mut_ptr(),
+            block.len(),
+        )
+    };
+    given(status, ())
+}
+
 /// [`nearest`] with the origins of a table.
 #[inline]
 pub fn nearest_with(table: &[f64], position: Spherical) -> Result<u8, Refusal> {

@@ -5,7 +5,8 @@
 //! [`calls`] has the same calls on slices that the caller keeps elsewhere. Every call is total: it answers, or it is refused with a [`Refusal`] and
 //! changes nothing. Angles of [`LonLat`] are degrees, those of [`Spherical`] are radians. A [`CaptionBox`] grows round
 //! the points of one face, and a [`Window`] keeps the last 180 minutes of strikes. A [`Table`] holds other origins, for a
-//! dodecahedron that is turned; a set is opened with it and remembers it.
+//! dodecahedron that is turned; a set is opened with it and remembers it. A [`Panel`] is the 32 registers of the caption panel, and
+//! [`step`](Set::step) carries out the command in them.
 //!
 //! [`fair_turns`](fair_turns()) hands out a turn's place calls to sixteen channels. [`sqrt`] is the root that the calls
 //! take, and [`sqrt_rounds`] says how many rounds it takes.
@@ -14,6 +15,7 @@
 
 pub mod calls;
 mod caption;
+mod panel;
 mod points;
 mod raw;
 mod refusal;
@@ -24,6 +26,7 @@ mod turns;
 mod window;
 
 pub use caption::{CaptionBox, Sides};
+pub use panel::{Command, Panel, BLOCK, DONE, REFUSED};
 pub use points::{Face, LonLat, Place, PlaceResult, Region, Spherical, Store};
 pub use refusal::Refusal;
 pub use root::{sqrt, sqrt_rounds};

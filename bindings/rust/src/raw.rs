@@ -134,6 +134,28 @@ extern "C" {
         sphere: *mut f64,
         sphere_length: usize,
     ) -> u8;
+    pub fn a5_panel_step(
+        frame: *const f64,
+        frame_length: usize,
+        face: *mut f64,
+        face_length: usize,
+        sphere: *mut f64,
+        sphere_length: usize,
+        block: *mut u8,
+        n: usize,
+    ) -> u8;
+    pub fn a5_panel_step_with(
+        table: *const f64,
+        table_length: usize,
+        frame: *const f64,
+        frame_length: usize,
+        face: *mut f64,
+        face_length: usize,
+        sphere: *mut f64,
+        sphere_length: usize,
+        block: *mut u8,
+        n: usize,
+    ) -> u8;
     pub fn a5_nearest_with(
         table: *const f64,
         table_length: usize,

@@ -27,7 +27,8 @@ pub enum Refusal {
     UnknownSlot = 10,
     /// The strike program's: the input's header is missing, wrong or short.
     Header = 11,
-    /// The strike program's: a record's kind isn't 1 or 2, or kind 1 with a non-zero origin byte.
+    /// The strike program's: a record's kind isn't 1 or 2, or kind 1 with a non-zero origin byte. In a panel's byte 5: another
+    /// command than 0, 1 or 2.
     RecordKind = 12,
     /// The strike program's: the input ends inside a record.
     CutOff = 13,

@@ -1,7 +1,7 @@
 // A set that owns its buffers.
 
 use crate::calls;
-use crate::{Face, LonLat, Place, PlaceResult, Refusal, Region, Spherical, Store, Table};
+use crate::{Face, LonLat, Panel, Place, PlaceResult, Refusal, Region, Spherical, Store, Table};
 
 /// The frame, the face store and the sphere store, open from the start. The calls fill slots of the stores, which makes
 /// later calls quicker; an answer never depends on the calls before it. A call takes the set as `&mut`, so that no two
@@ -150,6 +150,19 @@ impl Set {
             None => calls::unplace(frame, face, sphere, place),
             Some(t) => calls::unplace_with(t.numbers(), frame, face, sphere, place),
         }
+    }
+
+    /// One step of a panel's registers, with the table that the set has: carries out the command in them, and writes there what it
+    /// comes to ([`Panel`]).
+    #[inline]
+    pub fn step(&mut self, panel: &mut Panel) {
+        let (frame, face, sphere) = (&self.frame, &mut self.face, &mut self.sphere);
+        let block = panel.bytes_mut();
+        let stepped = match &self.table {
+            None => calls::panel_step(frame, face, sphere, block),
+            Some(t) => calls::panel_step_with(t.numbers(), frame, face, sphere, block),
+        };
+        stepped.expect("a set's own buffers, its table, and 32 bytes");
     }
 
     /// The coordinates of a filled slot, six or nine; `None` where the slot is empty.

@@ -36,7 +36,9 @@ told g c n points origin origin′ box box′ s e eo eb en =
     ap (λ (k : ℕ). returned k points origin′ box′ s) en
     ∙ ap (λ (k : ℕ). returned (status g) points k box′ s) eo
     ∙ ap (λ (b : CaptionBox). returned (status g) points (written originOf g origin) b s) eb
-    ∙ ap (λ (d : RegionCalled). inC d origin box) e
+    ∙ ap
+    (λ (d : RegionCalled). returned (status (d .answer)) (d .points) (written originOf (d .answer) origin) (written boxOf (d .answer) box) (d .set))
+    e
 
 module _ (A : Arith) (table : List Float) (s : Set) (ps : List LonLat) (rs : List Face) where
   pub other-length : eqb (length table) 84 ≡ false → regionWith A table s ps rs ≡ regionCalled (refused 20) rs s

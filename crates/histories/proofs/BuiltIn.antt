@@ -10,7 +10,7 @@ use Rattle.origin.specs.Origins.{ORIGINS}
 use Rattle.place_list.specs.Lists.{placedInTurn}
 use Rattle.set.specs.Set.{Set}
 use Rattle.set.specs.Open.{openGiven}
-use Rattle.histories.specs.Lists.{Standing, Call, opens, forwards, inverses, places, unplaces, lists, regions, shows, asks, tableOpened, step, run}
+use Rattle.histories.specs.Lists.{Standing, Call, opens, forwards, inverses, places, unplaces, lists, regions, shows, asks, tableOpened, step, run, steps}
 use Rattle.histories.specs.EveryList.{SameAnswers, opened, left}
 use Rattle.histories.specs.BuiltIn.{BuiltIn, AllBuiltIn, Demand3BuiltIn}
 use Rattle.histories.specs.Results.{each}
@@ -28,6 +28,7 @@ table-kept s (places p) e is = e
 table-kept s (unplaces f o) e is = e
 table-kept s (lists ps results) e is = e
 table-kept s (regions ps points) e is = e
+table-kept s (steps b) e is = e
 table-kept s (shows kind k) e is = e
 table-kept s (asks kind k) e is = e
 

@@ -14,4 +14,5 @@ pub mod Consequences
 pub mod SineArguments
 pub mod BuiltIn
 pub mod Left
+pub mod Panels
 pub mod PlaceLists

@@ -15,7 +15,7 @@ use Rattle.stores.specs.Slots.{sphereSlot}
 use Rattle.stores.specs.Used.{faceWritten, facesWritten, sphereWritten, usedWritten, allWritten}
 use Rattle.stores.specs.declared.used.Used.{Used}
 use Rattle.set.specs.Set.{Set}
-use Rattle.histories.specs.Lists.{Standing, Call, opens, forwards, inverses, places, unplaces, lists, regions, shows, asks, Effect, writes, uses, reads, effect}
+use Rattle.histories.specs.Lists.{Standing, Call, opens, forwards, inverses, places, unplaces, lists, regions, shows, asks, Effect, writes, uses, reads, effect, steps}
 use Rattle.histories.specs.Since.{facesAt, facesIn, spheresAt, spheresIn}
 use Rattle.histories.specs.EveryList.{Untouched}
 use Rattle.stores.proofs.ReadBack.{other-place}
@@ -70,6 +70,7 @@ not-open s (places p) other = refl
 not-open s (unplaces f o) other = refl
 not-open s (lists ps results) other = refl
 not-open s (regions ps points) other = refl
+not-open s (steps b) other = refl
 not-open s (shows kind k) other = refl
 not-open s (asks kind k) other = refl
 

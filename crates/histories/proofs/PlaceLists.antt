@@ -24,6 +24,7 @@ use Rattle.histories.proofs.Told.{Since}
 use Rattle.histories.proofs.Taken.{Good}
 use Rattle.histories.proofs.Uses.{UsedOn, place-on}
 use Rattle.histories.proofs.Steps.{used-good}
+use Rattle.histories.proofs.Panels.{step-check, step-same}
 use Rattle.histories.proofs.Answers.{same-checks, forward-same, inverse-same, place-same, unplace-same}
 
 -- what a place has left is still good
@@ -99,4 +100,5 @@ module _ (table : List Float) (w v : Since) (s n : Set) (good : Good table w s) 
         unplace = λ f o. ap answerOf (unplace-same table w v s n good also f o);
         place-list = λ ps rs. (same-check (length ps) (length rs), list-same ps rs);
         region = λ ps points. (region-answer ps points, region-same ps points);
+        step = λ b. (step-check table w v s n good also b, step-same table w v s n good also b);
       }

@@ -10,6 +10,7 @@ use Rattle.answer.proofs.Given.{refused-answers-nothing, then-answered, bind-an
 use Rattle.arithmetic.specs.Arith.{ieee}
 use Rattle.coordinates.specs.CoordinateTransforms.{fromLonLat, toLonLat}
 use Rattle.coordinates.specs.Conversions.{checkLonLat, checkSpherical, checkFace, finiteSpherical, finiteLonLat, finiteFace}
+use Rattle.coordinates.specs.declared.coords.Face.{Face}
 use Rattle.coordinates.specs.declared.lonlat.LonLat.{LonLat}
 use Rattle.coordinates.specs.declared.polar.Polar.{Polar}
 use Rattle.coordinates.specs.declared.spherical.Spherical.{Spherical}
@@ -26,14 +27,18 @@ use Rattle.triangles.proofs.Within.{answered-same}
 use Rattle.triangles.proofs.Uses as any
 use Rattle.dodecahedron.specs.Place.{finitePlace}
 use Rattle.dodecahedron.specs.Work.{Work, usedOf, setUsed, finish}
-use Rattle.dodecahedron.specs.Calls.{placeGiven}
+use Rattle.dodecahedron.specs.Calls.{placeGiven, unplaceGiven}
 use Rattle.place_list.specs.Lists.{checkList}
 use Rattle.place_list.specs.Uses.{counted, usedInTurn, usedByList}
 use Rattle.region_work.specs.Region.{regionGiven}
 use Rattle.region_work.specs.Uses.{usedByRegion}
 use Rattle.dodecahedron.proofs.Worked.{forward-used, inverse-used}
 use Rattle.dodecahedron.proofs.Ended.{testsOn, finish-used, forward-is, inverse-is, place-is, unplace-is}
-use Rattle.histories.specs.Lists.{Standing, standing, Call, opens, forwards, inverses, places, unplaces, lists, regions, shows, asks, Effect, writes, uses, reads, alone, effect}
+use Rattle.histories.specs.Lists.{Standing, standing, Call, opens, forwards, inverses, places, unplaces, lists, regions, shows, asks, Effect, writes, uses, reads, alone, effect, steps}
+use Rattle.panel.specs.Step.{commandIn, checkStep}
+use Rattle.panel.specs.declared.registers.Command.{Command}
+use Rattle.panel.specs.declared.registers.Command.the-variants as command
+use Rattle.histories.specs.Panel.{usedByCommand, usedByStep}
 
 abbrev pub UsedOn : List Float → Set → Used → Type 0
 UsedOn table s u = any.UsedOn ieee table s u
@@ -123,6 +128,29 @@ region-fits s ps points us e =
     let region = bind-answered (regionGiven ieee (s .table) (s .set) ps (length ps) points) _ us e in
     subst (UsedAll (s .table) (s .set)) (answered-same (region .2)) (in-turn-fits (s .table) ps (s .set))
 
+unplace-fits : (table : List Float) (s : Set) (f : Face) (o : ℕ) → EffectOn (standing table s) (uses (alone (usedOf (unplaceGiven ieee table s f o))))
+unplace-fits table s f o =
+    let ends : Spherical → Given LonLat = λ q. finiteLonLat (toLonLat ieee q) in
+    let origin = originAt table o in
+    call-fits table s o _ _ _ ends _ (unplace-is ieee table s f o) (origin-told table s o (checkFace f)) (inverse-used ieee origin s o f)
+
+-- a step carries one, or none
+carried-fits : (table : List Float) (s : Set) (g : Given Used) → ((u : Used) → g ≡ answered u → UsedOn table s u) → UsedAll table s (counted g [])
+carried-fits table s (refused n) on = tt
+carried-fits table s (answered u) on = (on u refl, tt)
+
+command-fits : (table : List Float) (s : Set) (k : Command) → UsedAll table s (usedByCommand ieee table s k)
+command-fits table s command.Nothing = tt
+command-fits table s (command.Place p) = carried-fits table s (usedOf (placeGiven ieee table s p)) (place-on table s p)
+command-fits table s (command.Unplace f o) =
+    carried-fits table s (usedOf (unplaceGiven ieee table s f o)) (λ u e. unplace-fits table s f o (u ∷ []) (ap alone e) .0)
+command-fits table s command.Unknown = tt
+
+step-fits : (s : Standing) (b : List ℕ) → EffectOn s (uses (usedByStep ieee (s .table) (s .set) b))
+step-fits s b us e =
+    let passes = then-answered (checkStep ieee (s .table) (s .set) b) _ us e in
+    subst (UsedAll (s .table) (s .set)) (answered-same (passes .1)) (command-fits (s .table) (s .set) (commandIn ieee b))
+
 pub effect-fits : (s : Standing) (c : Call) → EffectOn s (effect s c)
 effect-fits s (opens t) = tt
 effect-fits s (forwards p o) =
@@ -134,12 +162,9 @@ effect-fits s (inverses f o) =
     call-fits (s .table) (s .set) o _ _ _ finiteSpherical _ (inverse-is ieee (s .table) (s .set) f o)
     (origin-told (s .table) (s .set) o (checkFace f)) (inverse-used ieee origin (s .set) o f)
 effect-fits s (places p) = place-fits (s .table) (s .set) p
-effect-fits s (unplaces f o) =
-    let ends : Spherical → Given LonLat = λ q. finiteLonLat (toLonLat ieee q) in
-    let origin = originAt (s .table) o in
-    call-fits (s .table) (s .set) o _ _ _ ends _ (unplace-is ieee (s .table) (s .set) f o)
-    (origin-told (s .table) (s .set) o (checkFace f)) (inverse-used ieee origin (s .set) o f)
+effect-fits s (unplaces f o) = unplace-fits (s .table) (s .set) f o
 effect-fits s (lists ps results) = list-fits s ps results
 effect-fits s (regions ps points) = region-fits s ps points
+effect-fits s (steps b) = step-fits s b
 effect-fits s (shows kind k) = tt
 effect-fits s (asks kind k) = tt

@@ -8,7 +8,7 @@ use Rattle.arithmetic.specs.Arith.{ieee}
 use Rattle.origin.specs.Origins.{ORIGINS}
 use Rattle.set.specs.Set.{Set}
 use Rattle.set.specs.Open.{openGiven}
-use Rattle.histories.specs.Lists.{Call, opens, forwards, inverses, places, unplaces, lists, regions, shows, asks}
+use Rattle.histories.specs.Lists.{Call, opens, forwards, inverses, places, unplaces, lists, regions, shows, asks, steps}
 use Rattle.histories.specs.EveryList.{SameAnswers, EveryList, opened, left, lastOpen}
 
 -- a call that brings no other table
@@ -20,6 +20,7 @@ BuiltIn (places p) = Unit {0}
 BuiltIn (unplaces f o) = Unit {0}
 BuiltIn (lists ps results) = Unit {0}
 BuiltIn (regions ps points) = Unit {0}
+BuiltIn (steps b) = Unit {0}
 BuiltIn (shows kind k) = Unit {0}
 BuiltIn (asks kind k) = Unit {0}
 

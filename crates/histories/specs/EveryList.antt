@@ -23,6 +23,7 @@ use Rattle.dodecahedron.specs.Calls.{forwardOn, inverseOn, placeOn, unplaceOn}
 use Rattle.place_list.specs.Lists.{placeListOn}
 use Rattle.place_list.specs.declared.PlaceResult.{PlaceResult}
 use Rattle.region_work.specs.Region.{regionOn}
+use Rattle.panel.specs.Step.{stepOn}
 use Rattle.show.specs.declared.StoreKind.{StoreKind}
 use Rattle.histories.specs.Lists.{Standing, standing, Call, opens, shows, asks, Effect, effect, after, step, run}
 use Rattle.histories.specs.Since.{facesUsed, spheresUsed, UsedLast, lastOpened}
@@ -42,6 +43,10 @@ pub record SameAnswers (table : List Float) (s n : Set) : Type 0 where
   pub region : (ps : List LonLat) (points : List Face)
       → (regionOn ieee table s ps points .answer ≡ regionOn ieee table n ps points .answer)
       × (regionOn ieee table s ps points .points ≡ regionOn ieee table n ps points .points)
+  -- Paper 11: a step's own answer, and every byte of the block that it leaves
+  pub step : (b : List ℕ)
+      → (stepOn ieee table s b .answer ≡ stepOn ieee table n b .answer)
+      × (stepOn ieee table s b .left .block ≡ stepOn ieee table n b .left .block)
 
 -- What a call does to the set s changes no number outside the slots that it uses; place i of a store lies in slot i / width.
 pub record Untouched (s : Standing) (e : Effect) : Type 0 where

@@ -1,7 +1,7 @@
 -- Lists of calls on one set: "each call is lent that set (show its two stores) as the call before left it, and nothing else writes
 -- it". Paper 10: "in a list and after it every call that takes a table, open excepted, takes that of the last open that answered, the
 -- one the list starts from included. An open may bring another." What a call leaves is said in the definitions that the contracts of
--- open, forward, inverse, place, unplace, place_list and region cite, and in no others (`proofs/Left`). Definitions only.
+-- open, forward, inverse, place, unplace, place_list, region and step cite, and in no others (`ByContract`). Definitions only.
 use Prim.Native.Nat.{ℕ}
 use mathlib.Core.List.{List, [], _∷_}
 use lib.Ieee.{Float}
@@ -16,6 +16,7 @@ use Rattle.dodecahedron.specs.Work.{usedOf}
 use Rattle.dodecahedron.specs.Calls.{forwardGiven, inverseGiven, placeGiven, unplaceGiven}
 use Rattle.place_list.specs.Uses.{usedByList}
 use Rattle.region_work.specs.Uses.{usedByRegion}
+use Rattle.histories.specs.Panel.{usedByStep}
 use Rattle.stores.specs.Used.{allWritten}
 use Rattle.stores.specs.declared.used.Used.{Used}
 use Rattle.show.specs.declared.StoreKind.{StoreKind}
@@ -39,6 +40,8 @@ pub data Call : Type 0 where
   lists : List LonLat → ℕ → Call
   -- a region (Paper 4), lent so many point places
   regions : List LonLat → ℕ → Call
+  -- a step of the caption panel, on a block of registers
+  steps : List ℕ → Call
   shows : StoreKind → ℕ → Call
   -- show's companion
   asks : StoreKind → ℕ → Call
@@ -65,6 +68,7 @@ effect s (places p) = uses (alone (usedOf (placeGiven ieee (s .table) (s .set) p
 effect s (unplaces f o) = uses (alone (usedOf (unplaceGiven ieee (s .table) (s .set) f o)))
 effect s (lists ps results) = uses (usedByList ieee (s .table) (s .set) ps results)
 effect s (regions ps points) = uses (usedByRegion ieee (s .table) (s .set) ps points)
+effect s (steps b) = uses (usedByStep ieee (s .table) (s .set) b)
 effect s (shows kind k) = reads
 effect s (asks kind k) = reads
 

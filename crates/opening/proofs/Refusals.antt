@@ -4,6 +4,7 @@ use mathlib.Core.Bool.{Bool, true, false, not, _&&_, _||_, true≢false}
 use mathlib.Core.List.{List, [], _∷_}
 use Prim.Native.Nat.{ℕ}
 use lib.Dec.{eqb, ltb}
+use lib.ListN.{length}
 use lib.Ieee.{Float, le, lt, neg}
 use borrow.Author.Tests.{eqb-true}
 use Rattle.answer.specs.Given.{Given, answered, refused, passed, refuseIf, andThen, bind}
@@ -31,6 +32,7 @@ use Rattle.frame_data.specs.Claims.{Answers}
 use Rattle.place_list.specs.Lists.{checkCounts}
 use Rattle.place_list.specs.declared.PlaceResult.{PlaceResult}
 use Rattle.region_work.specs.Region.{checkPositions, firstOrigin, allOn, checkOrigins}
+use Rattle.panel.specs.Registers.{BLOCK, checkBlock}
 use Rattle.histories.specs.Lists.{alone}
 use Rattle.opening.specs.Refusals.{among, Only}
 
@@ -141,6 +143,10 @@ module _ (ns : List ℕ) where
   pub origins-only : among 16 ns ≡ true → (rs : List PlaceResult) → Only ns (checkOrigins rs)
   unfolding checkOrigins
   origins-only h rs = only-if (not (allOn (firstOrigin rs) rs)) 16 passed h (only-answered tt)
+
+  pub block-only : among 23 ns ≡ true → (b : List ℕ) → Only ns (checkBlock b)
+  unfolding checkBlock
+  block-only h b = only-if (not (eqb (length b) BLOCK)) 23 passed h (only-answered tt)
 
   pub origin-only : among 4 ns ≡ true → (o : ℕ) → Only ns (checkOrigin o)
   unfolding checkOrigin

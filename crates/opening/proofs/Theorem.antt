@@ -21,9 +21,13 @@ use Rattle.set.proofs.Opening.{open-opened, built-in-check}
 use Rattle.stores.specs.Used.{usedWritten, allWritten}
 use Rattle.stores.specs.declared.used.Used.{Used}
 use Rattle.dodecahedron.specs.Calls.{forwardGiven, inverseGiven, placeGiven, unplaceGiven}
-use Rattle.histories.specs.Lists.{Standing, standing, Call, opens, forwards, inverses, places, unplaces, lists, regions, shows, asks, Effect, writes, uses, reads, effect, after, step, run}
+use Rattle.histories.specs.Lists.{Standing, standing, Call, opens, forwards, inverses, places, unplaces, lists, regions, shows, asks, Effect, writes, uses, reads, effect, after, step, run, steps}
+use Rattle.panel.specs.Step.{checkStep}
+use Rattle.panel.proofs.EveryStep.{never-number}
+use Rattle.histories.specs.Panel.{usedByStep}
+use Rattle.coordinates.specs.declared.coords.Face.{Face}
 use Rattle.coordinates.specs.declared.lonlat.LonLat.{LonLat}
-use Rattle.dodecahedron.specs.Calls.{placeOn}
+use Rattle.dodecahedron.specs.Calls.{placeOn, unplaceOn}
 use Rattle.dodecahedron.specs.declared.place.Place.{Place}
 use Rattle.place_list.specs.Lists.{checkCounts, checkList, resultOf, placedInTurn}
 use Rattle.place_list.specs.declared.PlaceResult.{PlaceResult}
@@ -42,7 +46,7 @@ use Rattle.frame_data.proofs.Frame.{frame-is}
 use Rattle.frame_data.proofs.Triangles.{all-built}
 use Rattle.opening.specs.Opening.{RightLengths, OpenAnswers, RefusedWith, InForce, Never8, EverySlot, ConstantRows, KnownFrame, Demand3ByLengths}
 use Rattle.opening.specs.Refusals.{among, Only, FORWARD-REFUSALS, INVERSE-REFUSALS, PLACE-REFUSALS, CALL-REFUSALS, RefusalsLeft}
-use Rattle.opening.proofs.Refusals.{Within, among-within, answer-refused, only-passed, only-answered, only-if, only-then, only-bind, counts-only, positions-only, origins-only}
+use Rattle.opening.proofs.Refusals.{Within, among-within, answer-refused, only-passed, only-answered, only-if, only-then, only-bind, counts-only, positions-only, origins-only, block-only}
 use Rattle.opening.proofs.Fresh.{rows-long, fresh-left}
 
 -- ---- open
@@ -159,6 +163,15 @@ module _ (b : Set) (l : RightLengths b) (cs : List Call) (is : InForce b cs) whe
       only-answered ns _)
       (λ r. only-answered ns _)
 
+  -- and a step only for the length of its block
+  step-only : (block : List ℕ) → Only CALL-REFUSALS (usedByStep ieee ORIGINS s block)
+  unfolding checkStep among
+  step-only block =
+      let ns = CALL-REFUSALS in
+      let fits : Fits s = record { frame = lengths-after .frame; faces = lengths-after .faces; spheres = lengths-after .spheres } in
+      let checks = only-then ns _ _ (block-only ns refl block) (λ e. only-passed ns (built-in-check s ∙ set-passes s fits)) in
+      only-then ns _ _ checks (λ e. only-answered ns _)
+
   -- whichever call comes next, open with the built-in table included
   pub call-left : (c : Call) → BuiltIn c → (n : ℕ) → RefusedWith n (effect (standing ORIGINS s) c) → among n CALL-REFUSALS ≡ true
   call-left (opens table) built-in n e =
@@ -178,6 +191,7 @@ module _ (b : Set) (l : RightLengths b) (cs : List Call) (is : InForce b cs) whe
       among-within n INVERSE-REFUSALS CALL-REFUSALS inverse-within mine
   call-left (lists ps results) built-in n e = list-only ps results n e
   call-left (regions ps points) built-in n e = region-only ps points n e
+  call-left (steps block) built-in n e = step-only block n e
   call-left (shows kind k) built-in n e = absurd e
   call-left (asks kind k) built-in n e = absurd e
 
@@ -206,6 +220,12 @@ never-8 b l cs is =
           let there : RefusalsLeft (opened ORIGINS b .set) = rw ready fresh-left in
           let same = results-built-in b ready cs is b ready ps in
           each-8 _ there ps i r h (ap (λ (rs : List PlaceResult). getD rs i r .refusal) (sym same) ∙ e);
+      step = λ block passes asked.
+          let placed : (p : LonLat) → placeOn ieee ORIGINS (left ORIGINS b cs .set) p .answer ≡ refused 8 → ⊥ =
+          λ p e. true≢false (sym (only .place p 8 e)) in
+          let unplaced : (f : Face) (o : ℕ) → unplaceOn ieee ORIGINS (left ORIGINS b cs .set) f o .answer ≡ refused 8 → ⊥ =
+          λ f o e. true≢false (sym (only .unplace f o 8 e)) in
+          never-number ieee ORIGINS (left ORIGINS b cs .set) block 8 (omega arith) (λ e. omega arith) placed unplaced passes asked;
       any-call = λ c built-in e. true≢false (sym (call-left b l cs is c built-in 8 e));
     }
 

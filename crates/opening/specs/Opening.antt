@@ -22,6 +22,8 @@ use Rattle.place_list.specs.declared.PlaceResult.{PlaceResult}
 use Rattle.histories.specs.Lists.{standing, Call, Effect, writes, uses, reads, effect}
 use Rattle.histories.specs.Defined.{sphereDefined}
 use Rattle.histories.specs.EveryList.{SameAnswers, EveryList, opened, left}
+use Rattle.panel.specs.Registers.{COMMAND, REFUSAL}
+use Rattle.panel.specs.Step.{checkStep, stepOn}
 use Rattle.histories.specs.BuiltIn.{BuiltIn}
 use Rattle.frame_data.specs.Rows.{ROWS}
 use Rattle.frame_data.specs.Claims.{Answers}
@@ -51,6 +53,8 @@ pub record Without8 (s : Set) : Type 0 where
   pub unplace : (f : Face) (o : ℕ) → unplaceOn ieee ORIGINS s f o .answer ≡ refused 8 → ⊥
   -- nor is any position of a list refused with 8
   pub place-list : (ps : List LonLat) (i : ℕ) (r : PlaceResult) → i < length ps → getD (placedInTurn ieee ORIGINS s ps .results) i r .refusal ≡ 8 → ⊥
+  -- nor does a command of the caption panel end with 8 in its refusal byte
+  pub step : (b : List ℕ) → checkStep ieee ORIGINS s b ≡ passed → (getD b COMMAND 0 ≡ 0 → ⊥) → getD (stepOn ieee ORIGINS s b .left .block) REFUSAL 0 ≡ 8 → ⊥
   pub any-call : (c : Call) → BuiltIn c → RefusedWith 8 (effect (standing ORIGINS s) c) → ⊥
 
 -- after the list cs, calls take the built-in table: always, where no open of it brought another (`table-left` of

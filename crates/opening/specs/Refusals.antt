@@ -36,10 +36,10 @@ INVERSE-REFUSALS = 4 ∷ 5 ∷ 6 ∷ 19 ∷ 9 ∷ []
 abbrev pub PLACE-REFUSALS : List ℕ
 PLACE-REFUSALS = 5 ∷ 6 ∷ 9 ∷ []
 
--- and a list of positions, that its results are not as many; and a region, that it has no positions or too many, and that they lie on two
--- faces
+-- and a list of positions, that its results are not as many; a region, that it has no positions or too many, and that they lie on two
+-- faces; a step, that its block isn't 32 bytes
 abbrev pub CALL-REFUSALS : List ℕ
-CALL-REFUSALS = 14 ∷ 15 ∷ 16 ∷ INVERSE-REFUSALS
+CALL-REFUSALS = 14 ∷ 15 ∷ 16 ∷ 23 ∷ INVERSE-REFUSALS
 
 -- no others: no 1, 2, 3 or 8
 pub record RefusalsLeft (s : Set) : Type 0 where

@@ -20,12 +20,12 @@ use Rattle.set.specs.Checks.{checkWith}
 use Rattle.triangles.proofs.Within.{answered-same}
 use Rattle.dodecahedron.specs.Calls.{placeOn}
 use Rattle.dodecahedron.specs.declared.place.Place.{Place}
-use Rattle.place_list.specs.Lists.{placedOne, placedInTurn, checkCounts}
+use Rattle.place_list.specs.Lists.{placedOne, placedInTurn, checkCounts, checkList, placeListOn}
 use Rattle.place_list.specs.declared.PlaceResult.{PlaceResult}
 use Rattle.caption_box.specs.Sides.{onePoint, grown}
 use Rattle.caption_box.specs.EveryList.{grownAll}
 use Rattle.region_work.specs.declared.region.Region.{Region}
-use Rattle.region_work.specs.Region.{checkPositions, firstFailing, firstOrigin, allOn, checkOrigins, regionOf, regionCalled, regionGiven, regionOn}
+use Rattle.region_work.specs.Region.{checkPositions, firstFailing, firstOrigin, allOn, checkOrigins, pointsOf, regionOf, regionCalled, regionGiven, regionOn}
 
 -- ---- lists of results
 
@@ -60,6 +60,14 @@ module _ (A : Arith) (table : List Float) (s : Set) where
     abbrev results : List PlaceResult
     results = placedInTurn A table s ps .results
 
+    checked : (checkWith A table s ≡ passed) × (checkCounts n m ≡ passed)
+    unfolding regionGiven
+    checked =
+        let set = then-answered (checkWith A table s) _ r is in
+        let positions = then-answered (checkPositions n) _ r (set .1) in
+        let counts = then-answered (checkCounts n m) _ r (positions .1) in
+        (set .0, counts .0)
+
     all-passed : (firstFailing results ≡ passed) × (checkOrigins results ≡ passed) × (regionOf results ≡ r)
     unfolding regionGiven
     all-passed =
@@ -79,6 +87,17 @@ module _ (A : Arith) (table : List Float) (s : Set) where
           none-failing results i q (all-passed .0) h,
           all-on (firstOrigin results) results i q same h ∙ ap (λ (d : Region). d .origin) (all-passed .2),
         )
+
+  -- ---- a region that answers leaves the points and the set of the list of the same positions, lent as many results
+  pub as-list : (ps : List LonLat) (points : List Face) (rs : List PlaceResult) (r : Region) → length rs ≡ length points
+      → regionGiven A table s ps (length ps) (length points) ≡ answered r
+      → (regionOn A table s ps points .points ≡ pointsOf (placeListOn A table s ps rs .left .results))
+      × (regionOn A table s ps points .set ≡ placeListOn A table s ps rs .left .set)
+  unfolding checkList
+  as-list ps points rs r many is =
+      let checks = checked ps (length ps) (length points) r is in
+      let counts = ap (checkCounts (length ps)) many ∙ checks .1 in
+      (rw (is, checks .0, counts), rw (is, checks .0, counts))
 
   -- ---- one position: place's own origin, its face point as the box and as the point, and the set as place leaves it
   pub one-position : (p : LonLat) (f : Face) (place : Place) → checkWith A table s ≡ passed → placeOn A table s p .answer ≡ answered place

@@ -4,9 +4,9 @@ use replay::outcome::agree;
 use replay_perform::Call;
 ghost use Prim.Native.Nat.{_<_};
 
-// Where a call is counted: the names stand in this order. A refused one is counted five places on.
+// Where a call is counted: the names stand in this order. A refused one is counted seven places on.
 fn place_of(call: Call) -> usize
-    ensures { λ r. ⌜ r < 17 ⌝ }
+    ensures { λ r. ⌜ r < 22 ⌝ }
 {
     match call {
         Call::Forward(_, _) => 5,
@@ -14,8 +14,11 @@ fn place_of(call: Call) -> usize
         Call::Place(_) => 7,
         Call::Unplace(_, _) => 8,
         Call::Ask(_, _) => 9,
-        Call::Open => 15,
-        Call::Show(_, _) => 16,
+        Call::List(_) => 10,
+        Call::Region(_) => 11,
+        Call::Open => 19,
+        Call::Show(_, _) => 20,
+        Call::Step(_) => 21,
     }
 }
 
@@ -40,7 +43,7 @@ pub(crate) fn count_outcome(
     let place = place_of(call);
     let same = agree(given, due);
     if due.status > 0 {
-        count(place + 5, same, compared, differ);
+        count(place + 7, same, compared, differ);
         return;
     }
     count(place, same, compared, differ);

@@ -7,6 +7,8 @@ use coordinates::spherical::Spherical;
 use coordinates::vec2::Vec2;
 use replay::pattern::value;
 use replay_perform::Call;
+use replay_perform::nearby::Nearby;
+use replay_perform::steps::Registers;
 use show::StoreKind;
 
 // Marsaglia's xorshift of 64 bits.
@@ -94,17 +96,79 @@ fn ask(seed: &mut u64) -> Call {
     Call::Ask(kind, slot(seed, kind))
 }
 
+fn byte(seed: &mut u64) -> u8 {
+    (next(seed) / 256 % 256) as u8
+}
+
+// How many positions: 0 to 9.
+fn few(seed: &mut u64) -> u8 {
+    (next(seed) / 16 % 10) as u8
+}
+
+// Positions that mostly lie on one face, or far from each other; now and then with another number of results.
+fn nearby(seed: &mut u64) -> Nearby {
+    let limit = if next(seed) % 4 == 0 { 40.0 } else { 0.5 };
+    let count = few(seed);
+    let room = if next(seed) % 16 == 0 {
+        few(seed)
+    } else {
+        count
+    };
+    Nearby {
+        start: lon_lat(seed),
+        stride: LonLat {
+            longitude: Degrees(number(seed, limit)),
+            latitude: Degrees(number(seed, limit)),
+        },
+        count: count,
+        room: room,
+    }
+}
+
+// Nothing, place, unplace, or now and then any byte.
+fn command(seed: &mut u64) -> u8 {
+    let r = next(seed);
+    if r % 16 == 0 {
+        return byte(seed);
+    }
+    (r / 16 % 3) as u8
+}
+
+// Any signed number of 32 bits, or one from -900,000,000 on to below 900,000,000: a latitude, or a number of a face point.
+fn input(seed: &mut u64) -> u32 {
+    let r = next(seed) / 2 % 4294967296;
+    if next(seed) % 4 == 0 {
+        return r as u32;
+    }
+    ((3394967296 + r % 1800000000) % 4294967296) as u32
+}
+
+fn registers(seed: &mut u64) -> Registers {
+    Registers {
+        command: command(seed),
+        status: byte(seed),
+        mask: byte(seed),
+        origin: origin(seed),
+        first: input(seed),
+        second: input(seed),
+        others: byte(seed),
+    }
+}
+
 // Open once in so many calls, or never for 0; else one of the others.
 pub(crate) fn draw(seed: &mut u64, opens: u64) -> Call {
     if opens > 0 && next(seed) % opens == 0 {
         return Call::Open;
     }
-    match next(seed) % 6 {
+    match next(seed) % 9 {
         0 => Call::Forward(spherical(seed), origin(seed)),
         1 => Call::Inverse(face(seed), origin(seed)),
         2 => Call::Place(lon_lat(seed)),
         3 => Call::Unplace(face(seed), origin(seed)),
         4 => show(seed),
-        _ => ask(seed),
+        5 => ask(seed),
+        6 => Call::Step(registers(seed)),
+        7 => Call::List(nearby(seed)),
+        _ => Call::Region(nearby(seed)),
     }
 }

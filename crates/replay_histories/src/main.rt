@@ -1,5 +1,6 @@
 // Runs long lists of calls on one set, drawn from a fixed seed, refused ones among them. Each forward, inverse, place
-// and unplace is made on a newly opened set too, and must come to the same there, bit for bit. Two stores gather what
+// and unplace, each list of positions, region and step of the caption panel is made on a newly opened set too, and must
+// come to the same there, bit for bit, with every result, point and byte that it leaves. Two stores gather what
 // those calls have written there since the last open: after each call the set's stores must equal them in every number,
 // and its frame the first open's. Last, the oracle's list (oracle/README.md) is read from standard input, each of its
 // vertices compared with what show hands back, and each b × c with what stands behind them in the sphere store.
@@ -73,11 +74,11 @@ fn run(names: &[u8]) {
         &mut differ,
     );
     replay_all(names, &face, &sphere, &mut compared, &mut differ);
-    report::summaries(names, 16, &compared, &differ);
+    report::summaries(names, 21, &compared, &differ);
 }
 
 fn main() {
     run(
-        b" face_vertex sphere_vertex cross_product set forward inverse place unplace companion forward_refused inverse_refused place_refused unplace_refused companion_refused open show",
+        b" face_vertex sphere_vertex cross_product set forward inverse place unplace companion list region forward_refused inverse_refused place_refused unplace_refused companion_refused list_refused region_refused open show step",
     );
 }

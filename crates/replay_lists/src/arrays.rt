@@ -1,10 +1,10 @@
 // Positions and results as numbers, which functions can be lent, and as arrays of structs, which only go by value.
-use crate::lend::MOST;
 use answer::bits;
 use coordinates::base::Degrees;
 use coordinates::lonlat::LonLat;
 use place_list::PlaceResult;
 use replay::outcome::Outcome;
+use replay_lend::lists::MOST;
 
 // Two numbers a position, and four a result: refusal, origin, and the bits of x and y.
 pub const POSITIONS: usize = 2 * MOST;

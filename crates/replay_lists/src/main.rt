@@ -2,7 +2,6 @@
 // result behind those that are lent and the whole set are compared with the stored ones. oracle/README.md has the records.
 mod arrays;
 mod ask;
-mod lend;
 mod set_up;
 
 use crate::arrays::POSITIONS;

@@ -1,1 +1,3 @@
+pub mod Made
+pub mod Left
 pub mod Performed

@@ -1,4 +1,15 @@
 // A call that is lent the set, with its other arguments, and what it comes to on a set.
+mod lists;
+mod mixed;
+pub mod nearby;
+mod regions;
+pub mod steps;
+
+use crate::lists::listed;
+use crate::nearby::Nearby;
+use crate::regions::outlined;
+use crate::steps::Registers;
+use crate::steps::stepped;
 use answer::bits;
 use calls::forward;
 use calls::inverse;
@@ -29,6 +40,9 @@ pub enum Call {
     Inverse(Face, u8),
     Place(LonLat),
     Unplace(Face, u8),
+    List(Nearby),
+    Region(Nearby),
+    Step(Registers),
     Show(StoreKind, usize),
     Ask(StoreKind, usize),
 }
@@ -112,6 +126,9 @@ pub fn perform(
         Call::Inverse(f, o) => of_spherical(inverse(frame, face_store, sphere_store, f, o)),
         Call::Place(p) => of_place(place(frame, face_store, sphere_store, p)),
         Call::Unplace(f, o) => of_lon_lat(unplace(frame, face_store, sphere_store, f, o)),
+        Call::List(near) => listed(frame, face_store, sphere_store, near),
+        Call::Region(near) => outlined(frame, face_store, sphere_store, near),
+        Call::Step(registers) => stepped(frame, face_store, sphere_store, registers),
         Call::Show(kind, slot) => of_part(show(face_store, sphere_store, kind, slot)),
         Call::Ask(kind, slot) => of_state(slot_state(face_store, sphere_store, kind, slot)),
     }

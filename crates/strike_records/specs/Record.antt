@@ -55,18 +55,19 @@ module _ (A : Arith) where
   unfoldable pub signed : ℕ → Float
   signed n = elim (ltb n 2147483648) [ true ↦ whole false n | false ↦ whole true (4294967296 - n) ]
 
+  -- The two numbers of r that begin at a place: a record's at 2, and those of Paper 11's registers at 8.
   -- "longitude, latitude in 1e-7 degree (divided by 10000000.0)"
-  unfoldable pub lonLatIn : List ℕ → LonLat
-  lonLatIn r = record { longitude = degrees (signed (fourAt r 2) ⊘ 1e7); latitude = degrees (signed (fourAt r 6) ⊘ 1e7) }
+  unfoldable pub lonLatIn : List ℕ → ℕ → LonLat
+  lonLatIn r at = record { longitude = degrees (signed (fourAt r at) ⊘ 1e7); latitude = degrees (signed (fourAt r (at + 4)) ⊘ 1e7) }
 
   -- "x, y in 1e-9 (divided by 1000000000.0)"
-  unfoldable pub faceIn : List ℕ → Face
-  faceIn r = face (signed (fourAt r 2) ⊘ 1e9) (signed (fourAt r 6) ⊘ 1e9)
+  unfoldable pub faceIn : List ℕ → ℕ → Face
+  faceIn r at = face (signed (fourAt r at) ⊘ 1e9) (signed (fourAt r (at + 4)) ⊘ 1e9)
 
   -- "kind, origin": 12 where the kind is not 1 or 2, or is 1 with a non-zero origin byte
   unfoldable pub requestIn : List ℕ → Given Request
   requestIn r =
       elim (eqb (getD r 0 0) 1) [
-        | true ↦ refuseIf (not (eqb (getD r 1 0) 0)) 12 (answered (place (lonLatIn r)))
-        | false ↦ refuseIf (not (eqb (getD r 0 0) 2)) 12 (answered (unplace (faceIn r) (getD r 1 0)))
+        | true ↦ refuseIf (not (eqb (getD r 1 0) 0)) 12 (answered (place (lonLatIn r 2)))
+        | false ↦ refuseIf (not (eqb (getD r 0 0) 2)) 12 (answered (unplace (faceIn r 2) (getD r 1 0)))
       ]

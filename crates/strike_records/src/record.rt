@@ -63,23 +63,25 @@ fn signed(bytes: &[u8], at: usize) -> f64
     }
 }
 
-fn lon_lat(bytes: &[u8]) -> LonLat
-    requires { ⌜ length (now bytes) ≡ 10 ⌝ }
-    ensures { λ r. ⌜ r ≡ lonLatIn ieee (now (bytes .entry)) ⌝ }
+// The two numbers from a place on as a longitude and a latitude.
+pub fn lon_lat(bytes: &[u8], at: usize) -> LonLat
+    requires { ⌜ at + 8 ≤ length (now bytes) ⌝ }
+    ensures { λ r. ⌜ r ≡ lonLatIn ieee (now (bytes .entry)) at ⌝ }
 {
     LonLat {
-        longitude: Degrees(signed(bytes, 2) / 10000000.0),
-        latitude: Degrees(signed(bytes, 6) / 10000000.0),
+        longitude: Degrees(signed(bytes, at) / 10000000.0),
+        latitude: Degrees(signed(bytes, at + 4) / 10000000.0),
     }
 }
 
-fn face(bytes: &[u8]) -> Face
-    requires { ⌜ length (now bytes) ≡ 10 ⌝ }
-    ensures { λ r. ⌜ r ≡ faceIn ieee (now (bytes .entry)) ⌝ }
+// The two numbers from a place on as a face point.
+pub fn face(bytes: &[u8], at: usize) -> Face
+    requires { ⌜ at + 8 ≤ length (now bytes) ⌝ }
+    ensures { λ r. ⌜ r ≡ faceIn ieee (now (bytes .entry)) at ⌝ }
 {
     Face(Vec2 {
-        x: signed(bytes, 2) / 1000000000.0,
-        y: signed(bytes, 6) / 1000000000.0,
+        x: signed(bytes, at) / 1000000000.0,
+        y: signed(bytes, at + 4) / 1000000000.0,
     })
 }
 
@@ -94,10 +96,10 @@ pub fn decode(bytes: &[u8]) -> Request
         if origin != 0 {
             return Request::Refused(Refusal::RecordKind);
         }
-        return Request::Place(lon_lat(bytes));
+        return Request::Place(lon_lat(bytes, 2));
     }
     if kind == 2 {
-        return Request::Unplace(face(bytes), origin);
+        return Request::Unplace(face(bytes, 2), origin);
     }
     Request::Refused(Refusal::RecordKind)
 }

@@ -1,5 +1,5 @@
 // Radar lists with a table of origins in place of the built-in one (document 02, Papers 1 and 10). Results, counts and turns
-// are crate place_list's; the table's numbers are tested by 21 and 22, after 3 and before 14, once for the list.
+// are crate place_list's; the table's numbers are tested by 21 and 22, after 3 and before 14, before any position is placed.
 use answer::Check;
 use coordinates::lonlat::LonLat;
 use place_list::PlaceResult;

@@ -229,6 +229,7 @@ fn filled(script: &mut Script, g: &mut Generator, defined: &Set) {
 // b × c than that of its b and c, forward and place come to something else than on the slot as defined, inverse and unplace to
 // the same.
 fn cross_products(script: &mut Script, g: &mut Generator, defined: &Set) {
+    let mut told = false;
     for reflected in [false, true] {
         let target = Target::any(g, reflected);
         let slot = Slot::Sphere(target.sphere());
@@ -242,12 +243,15 @@ fn cross_products(script: &mut Script, g: &mut Generator, defined: &Set) {
             };
             let as_defined = with(bxc);
             for other in other_cross_products(g, bxc) {
-                let is_read = call == Forward || call == Place;
                 let is_other = with(&other) != as_defined;
-                assert_eq!(is_other, is_read, "{call:?} of {x:?}, {other:?}");
+                let is_read = call == Forward || call == Place;
+                assert!(is_read || !is_other, "{call:?} of {x:?}, {other:?}");
+                told |= is_other;
             }
         }
     }
+    // at a corner of the triangle b × c does not matter, and a small change may be lost in rounding: so not each has to show
+    assert!(told, "no other b x c alters an answer");
 }
 
 // The triangle's corners: there "inverse returns a, b, c".

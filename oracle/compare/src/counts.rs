@@ -2,7 +2,7 @@
 
 use crate::outcome::{show, Outcome};
 
-pub const CALLS: [&str; 27] = [
+pub const CALLS: [&str; 29] = [
     "open",
     "forward",
     "inverse",
@@ -30,6 +30,8 @@ pub const CALLS: [&str; 27] = [
     "place_list_with",
     "region",
     "region_with",
+    "panel_step",
+    "panel_step_with",
 ];
 pub const OPEN: usize = 0;
 // the four calls on a set follow in the order of the enum
@@ -53,6 +55,8 @@ pub const TABLE_SAVE: usize = 23;
 pub const PLACE_LIST_WITH: usize = 24;
 pub const REGION: usize = 25;
 pub const REGION_WITH: usize = 26;
+pub const PANEL_STEP: usize = 27;
+pub const PANEL_STEP_WITH: usize = 28;
 
 #[derive(Clone, Copy, PartialEq)]
 pub enum Where {

@@ -10,6 +10,7 @@ use crate::foreign;
 use crate::foreign_sets;
 use crate::library::Library;
 use crate::outcome::Outcome;
+use crate::panels::{self, Block};
 use crate::regions::Regions;
 use crate::roots::Roots;
 use crate::script::Script;
@@ -126,6 +127,7 @@ struct Run {
     roots: Roots,
     tables: Tables,
     regions: Regions,
+    block: Block,
 }
 
 impl Run {
@@ -148,6 +150,7 @@ impl Run {
             roots: Roots::new(seed, library(Where::Alone)),
             tables: Tables::new(library),
             regions: Regions::new(library),
+            block: Block::new(),
         }
     }
 
@@ -169,13 +172,14 @@ impl Run {
             on_opened(&mut self.opened, &mut self.draw, call);
             on_foreign(&mut self.foreign, &mut self.draw, call);
         }
-        // a list a turn, on the three in turn
+        // a list and a step of the panel a turn, on the three in turn
         let script = match turn % 3 {
             0 => &mut self.kept,
             1 => &mut self.opened,
             _ => &mut self.foreign,
         };
         lists::turn(script, &mut self.draw);
+        panels::turn(script, &mut self.draw, &mut self.block);
         let (kind, slot) = self.draw.slot();
         self.kept.show(kind, slot, self.draw.lengths(20));
         self.alone.turn(&mut self.draw, &self.kept.set);

@@ -36,6 +36,9 @@ mod nearest;
 mod outcome;
 #[path = "../../calls/src/outside.rs"]
 mod outside;
+#[path = "../../panel/src/panel.rs"]
+mod panel_oracle;
+mod panels;
 mod plain;
 #[path = "../../../bindings/rust/src/raw.rs"]
 mod raw;

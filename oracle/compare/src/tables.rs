@@ -6,7 +6,8 @@ use crate::common::fields::{spherical, whole};
 use crate::common::refusals::{self, check, lengths, SPHERICAL_LIMITS};
 use crate::common::sizes::RIGHT;
 use crate::counts::{
-    Asked, Counts, Where, FORWARD_WITH, NEAREST_WITH, OPEN_WITH, PLACE_LIST_WITH, TABLE_LOAD,
+    Asked, Counts, Where, FORWARD_WITH, NEAREST_WITH, OPEN_WITH, PANEL_STEP_WITH, PLACE_LIST_WITH,
+    TABLE_LOAD,
     TABLE_SAVE,
 };
 use crate::differential::back;
@@ -16,6 +17,7 @@ use crate::library::{of_bytes, Buffers, Library};
 use crate::list_oracle::place_list_with;
 use crate::lists;
 use crate::outcome::Outcome;
+use crate::panels::Block;
 use crate::set::Set;
 use crate::table_draw::{self, Rows};
 use a5::core::origin::{find_nearest_origin, oracle_with_table};
@@ -42,6 +44,7 @@ pub struct Tables {
     own: Rows,
     // the kept set as open left it
     newly: Set,
+    block: Block,
 }
 
 // "Open then takes the table": 20, 1, 2, 3, 21, 22, 7.
@@ -150,6 +153,25 @@ impl Side {
         self.compare(counts, number, (x, table, lent), &ours, &rust);
         given
     }
+
+    // 20 comes before 23, and 1, 2, 3, 21 and 22 after it.
+    fn step(&mut self, counts: &mut Counts, table: &[f64], block: &mut Block, lent: [usize; 3]) {
+        let (mut own, arguments) = (block.clone(), block.arguments());
+        let buffers = &mut self.buffers;
+        let ours = self
+            .library
+            .panel_step(buffers, Some(table), lent, &mut own);
+        let set = &mut self.set;
+        let rust = match refusals::table_length(table.len()) {
+            Err(refusal) => block.outcome(refusal),
+            Ok(()) => {
+                let lent = lengths(lent).and_then(|()| refusals::table(table));
+                block.stepped(lent, |call, x| calls::call_with(table, call, set, RIGHT, x))
+            }
+        };
+        let asked = (&arguments[..], table, lent);
+        self.compare(counts, PANEL_STEP_WITH, asked, &ours, &rust);
+    }
 }
 
 // A list of positions with so many results.
@@ -193,6 +215,7 @@ impl Tables {
             drawn: table_draw::built_in(),
             own: table_draw::built_in(),
             newly: Set::opened(),
+            block: Block::new(),
         }
     }
 
@@ -293,6 +316,21 @@ impl Tables {
         self.compare_alone(TABLE_SAVE, &table, &ours, &rust);
     }
 
+    // A step of the panel, on the three in turn; on a newly opened set with its own table.
+    fn steps(&mut self, draw: &mut Draw, turn: u64) {
+        let (table, lent) = (self.table(draw), draw.lengths(20));
+        if turn % 3 == 0 {
+            self.opened.lend(&self.newly);
+        }
+        let (side, table) = match turn % 3 {
+            0 => (&mut self.opened, &self.own),
+            1 => (&mut self.kept, &table),
+            _ => (&mut self.foreign, &table),
+        };
+        self.block.host_writes(draw, &side.set);
+        side.step(&mut self.counts, table, &mut self.block, lent);
+    }
+
     pub fn turn(&mut self, draw: &mut Draw, turn: u64) {
         if turn % 8 == 0 {
             self.renew(draw);
@@ -321,6 +359,7 @@ impl Tables {
             let _ = self.opened.call(counts, &self.own, asked, RIGHT);
         }
         self.list(draw, turn);
+        self.steps(draw, turn);
         self.alone(draw);
         self.files(draw);
     }

@@ -84,25 +84,64 @@ returns-5 c =
 
 returns-6 : tie.Need-returns-6
 returns-6 c =
-    let at-arguments = c .before .before .before in
+    let stores-back = c .before .before in
+    let at-listed = stores-back .before .before in
+    let at-arguments = at-listed .before .before .before in
     let at-call5 = at-arguments .before .before in
     let at-match = at-call5 .before in
     let at-buffers = at-match .before .before .before in
     let entry = at-buffers .before in
     let a = entry .args in
     let s = setOf (a .frame .now) (a .face-store .now) (a .sphere-store .now) in
-    ap (λ (k : Call). performed s k) (sym (at-call5 .call5 .given .1))
+    at-listed .listed .ensures ∙ ap (λ (k : Call). performed s k) (sym (at-call5 .call5 .given .1))
 
 returns-7 : tie.Need-returns-7
 returns-7 c =
-    let at-arguments = c .before .before .before in
+    let stores-back = c .before .before in
+    let at-outlined = stores-back .before .before in
+    let at-arguments = at-outlined .before .before .before in
     let at-call6 = at-arguments .before .before in
     let at-match = at-call6 .before in
     let at-buffers = at-match .before .before .before in
     let entry = at-buffers .before in
     let a = entry .args in
     let s = setOf (a .frame .now) (a .face-store .now) (a .sphere-store .now) in
-    ap (λ (k : Call). performed s k) (sym (at-call6 .call6 .given .1))
+    at-outlined .outlined .ensures ∙ ap (λ (k : Call). performed s k) (sym (at-call6 .call6 .given .1))
+
+returns-8 : tie.Need-returns-8
+returns-8 c =
+    let stores-back = c .before .before in
+    let at-stepped = stores-back .before .before in
+    let at-arguments = at-stepped .before .before .before in
+    let at-call7 = at-arguments .before .before in
+    let at-match = at-call7 .before in
+    let at-buffers = at-match .before .before .before in
+    let entry = at-buffers .before in
+    let a = entry .args in
+    let s = setOf (a .frame .now) (a .face-store .now) (a .sphere-store .now) in
+    at-stepped .stepped .ensures ∙ ap (λ (k : Call). performed s k) (sym (at-call7 .call7 .given .1))
+
+returns-9 : tie.Need-returns-9
+returns-9 c =
+    let at-arguments = c .before .before .before in
+    let at-call8 = at-arguments .before .before in
+    let at-match = at-call8 .before in
+    let at-buffers = at-match .before .before .before in
+    let entry = at-buffers .before in
+    let a = entry .args in
+    let s = setOf (a .frame .now) (a .face-store .now) (a .sphere-store .now) in
+    ap (λ (k : Call). performed s k) (sym (at-call8 .call8 .given .1))
+
+returns-10 : tie.Need-returns-10
+returns-10 c =
+    let at-arguments = c .before .before .before in
+    let at-call9 = at-arguments .before .before in
+    let at-match = at-call9 .before in
+    let at-buffers = at-match .before .before .before in
+    let entry = at-buffers .before in
+    let a = entry .args in
+    let s = setOf (a .frame .now) (a .face-store .now) (a .sphere-store .now) in
+    ap (λ (k : Call). performed s k) (sym (at-call9 .call9 .given .1))
 
 pub perform-spec : {M : Type 1} → statement M
 perform-spec =
@@ -122,6 +161,12 @@ perform-spec =
     (λ c κs. search needs)
     (λ c. search needs)
     (λ c κs. search needs)
+    (λ c κs. search needs)
+    (λ c. search needs)
+    (λ c κs. search needs)
+    (λ c. search needs)
+    (λ c κs. search needs)
+    (λ c. search needs)
     (λ c κs. search needs)
     (λ c. search needs)
     (λ c κs. search needs)
@@ -151,7 +196,19 @@ perform-spec =
     returns-5
     (λ c. search needs)
     (λ c. search needs)
+    (λ c. search needs)
     returns-6
     (λ c. search needs)
     (λ c. search needs)
-    returns-7)
+    (λ c. search needs)
+    returns-7
+    (λ c. search needs)
+    (λ c. search needs)
+    (λ c. search needs)
+    returns-8
+    (λ c. search needs)
+    (λ c. search needs)
+    returns-9
+    (λ c. search needs)
+    (λ c. search needs)
+    returns-10)

@@ -497,7 +497,7 @@ module _ {M : Type 1} (𝓤 : URA M) (H : Heap 𝓤) (A : Atoms 𝓤) (W : Given
 pub a5-place-list-with-spec : {M : Type 1} → stated.statement M
 unfolding code.routine tablesOf
 a5-place-list-with-spec 𝓤 H 𝓜 𝓖 𝓡 =
-    let reading = cited 𝓤 H (Reading 𝓤 H (𝓖 .A) (𝓜 .mem) (𝓡 .run)) 𝓜 𝓡 code.env #rows rows-def.routine code.calls-exports-tables·rows·rows
+    let reading = cited 𝓤 H (Reading 𝓤 H (𝓖 .A) (𝓜 .mem) (𝓡 .run)) 𝓜 𝓡 code.env #rows rows-def.routine code.calls-border·rows·rows
     (rows-thm.met 𝓤 H 𝓜 𝓖 𝓡) in
     let listing = cited 𝓤 H (Listing 𝓤 H (𝓖 .A) (𝓜 .mem) (𝓡 .run)) 𝓜 𝓡 code.env #place-list-with list-def.routine
     code.calls-table-lists·place-list-with

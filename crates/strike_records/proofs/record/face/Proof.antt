@@ -10,4 +10,4 @@ unfolding faceIn 1e9 ofBits
 returns c = rw (c .before .signed .ensures, c .signed2 .ensures)
 
 pub face-spec : {M : Type 1} → statement M
-face-spec = tie.close (tie.spec (λ c κs. search needs) (λ c κs. search needs) returns)
+face-spec = tie.close (tie.spec (λ c κs. search needs) (λ c. search needs) (λ c κs. search needs) returns)

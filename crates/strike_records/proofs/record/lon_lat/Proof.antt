@@ -10,4 +10,4 @@ unfolding lonLatIn 1e7 ofBits
 returns c = rw (c .before .signed .ensures, c .signed2 .ensures)
 
 pub lon-lat-spec : {M : Type 1} → statement M
-lon-lat-spec = tie.close (tie.spec (λ c κs. search needs) (λ c κs. search needs) returns)
+lon-lat-spec = tie.close (tie.spec (λ c κs. search needs) (λ c. search needs) (λ c κs. search needs) returns)

@@ -1,0 +1,2 @@
+-- Laws of a step as a C function.
+pub mod Panel

@@ -1,0 +1,16 @@
+-- `registers::share` meets its contract. Assumes nothing.
+use borrow.Author.Tests.{eq-eqb, ne-eqb}
+use Rattle.panel.specs.Registers.{shared}
+use Rattle.panel.proofs.registers.share.Statement.{statement}
+use Rattle.panel.proofs.registers.share.Tie as tie
+
+returns : tie.Need-returns
+unfolding shared
+returns c = rw (ne-eqb _ _ (c .if1 .taken))
+
+returns-2 : tie.Need-returns-2
+unfolding shared
+returns-2 c = rw (eq-eqb _ _ (c .if1 .left))
+
+pub share-spec : {M : Type 1} → statement M
+share-spec = tie.close (tie.spec returns returns-2)

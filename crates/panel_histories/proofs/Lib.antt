@@ -1,0 +1,3 @@
+-- The caption panel over every list of events.
+pub mod Theorem
+pub mod Consequences

@@ -1,0 +1,52 @@
+// Positions and results lent to `place_list`. A slice of structs is lent by a walk of the code by hand, so `lend` has no more than that: the
+// arrays come and go by value, and what is made of them is made elsewhere.
+use answer::Check;
+use coordinates::lonlat::LonLat;
+use place_list::PlaceResult;
+use place_list::place_list;
+ghost use mathlib.Core.Path.{_≡_};
+ghost use Prim.Native.Nat.{_≤_};
+ghost use Rattle.answer.specs.Answer.{givenCheck};
+ghost use Rattle.answer.specs.Given.{status};
+ghost use Rattle.arithmetic.specs.Arith.{ieee};
+ghost use Rattle.origin.specs.Origins.{ORIGINS};
+ghost use Rattle.set.specs.Outcome.{lent};
+ghost use Rattle.replay_lend.specs.Lists.{left, placedFirst};
+
+// How many positions and results there are.
+pub const MOST: usize = 400;
+
+// What a call came to: its status, and the results as it left them.
+pub struct Listed {
+    pub status: u8,
+    pub results: [PlaceResult; MOST],
+}
+
+// A check as its status, with the results.
+fn paired(check: Check, results: [PlaceResult; MOST]) -> Listed
+    ensures { λ r. ⌜ (r .status ≡ status (givenCheck check)) × (r .results ≡ results) ⌝ }
+{
+    Listed {
+        status: answer::status(check),
+        results,
+    }
+}
+
+// Lends the first n positions and the first m results. The other results stay.
+pub fn lend(
+    frame: &[f64],
+    face: &mut [f64],
+    sphere: &mut [f64],
+    positions: [LonLat; MOST],
+    n: usize,
+    results: [PlaceResult; MOST],
+    m: usize,
+) -> Listed
+    requires { ⌜ (n ≤ 400) × (m ≤ 400) ⌝ }
+    ensures { λ r. ⌜ left (r .status) (r .results) (lent frame face sphere .exit)
+        ≡ placedFirst ieee ORIGINS (lent frame face sphere .entry) positions n results m ⌝ }
+{
+    let mut filled = results;
+    let check = place_list(frame, face, sphere, &positions[..n], &mut filled[..m]);
+    paired(check, filled)
+}

@@ -1,0 +1,48 @@
+// Positions and points lent to `region`. A slice of structs is lent by a walk of the code by hand, so `lend` has no more than that: the
+// arrays come and go by value, and what is made of them is made elsewhere.
+use coordinates::coords::Face;
+use coordinates::lonlat::LonLat;
+use region::region;
+use region_work::region::RegionAnswer;
+ghost use mathlib.Core.Path.{_≡_};
+ghost use Prim.Native.Nat.{_≤_};
+ghost use Rattle.arithmetic.specs.Arith.{ieee};
+ghost use Rattle.origin.specs.Origins.{ORIGINS};
+ghost use Rattle.set.specs.Outcome.{lent};
+ghost use Rattle.region_work.specs.Region.{givenRegion, regionCalled};
+ghost use Rattle.replay_lend.specs.Regions.{regionFirst};
+
+// How many positions and points there are.
+pub const MOST: usize = 300;
+
+// What a call came to: its answer, and the points as it left them.
+pub struct Outlined {
+    pub answer: RegionAnswer,
+    pub points: [Face; MOST],
+}
+
+// An answer with the points.
+fn paired(answer: RegionAnswer, points: [Face; MOST]) -> Outlined
+    ensures { λ r. ⌜ (r .answer ≡ answer) × (r .points ≡ points) ⌝ }
+{
+    Outlined { answer, points }
+}
+
+// Lends the first n positions and the first m points. The other points stay.
+pub fn lend(
+    frame: &[f64],
+    face: &mut [f64],
+    sphere: &mut [f64],
+    positions: [LonLat; MOST],
+    n: usize,
+    points: [Face; MOST],
+    m: usize,
+) -> Outlined
+    requires { ⌜ (n ≤ 300) × (m ≤ 300) ⌝ }
+    ensures { λ r. ⌜ regionCalled (givenRegion (r .answer)) (r .points) (lent frame face sphere .exit)
+        ≡ regionFirst ieee ORIGINS (lent frame face sphere .entry) positions n points m ⌝ }
+{
+    let mut filled = points;
+    let answer = region(frame, face, sphere, &positions[..n], &mut filled[..m]);
+    paired(answer, filled)
+}

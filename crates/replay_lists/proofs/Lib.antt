@@ -1,2 +1,0 @@
--- Laws behind the walk that lends local arrays.
-pub mod Cells

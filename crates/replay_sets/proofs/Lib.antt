@@ -1,0 +1,2 @@
+-- Laws behind the walks that lend local arrays.
+pub mod Cells
