@@ -1,12 +1,12 @@
 // Core, atan and atan2 (document 01, "Elementary steps").
+use float_parts::signs::abs;
+use float_parts::signs::negative;
 use square_root::root::sqrt;
 use square_root::root::sqrt_both;
-use square_root::signs::abs;
-use square_root::signs::negative;
 ghost use mathlib.Core.Path.{_≡_};
 ghost use Rattle.arithmetic.specs.Arith.{ieee};
 ghost use Rattle.arithmetic.specs.Sqrt.{sqrt};
-ghost use Rattle.square_root.specs.Signs.{abs, withSign};
+ghost use Rattle.float_parts.specs.Signs.{abs, withSign};
 ghost use Rattle.elementary.specs.Sine.{series};
 ghost use Rattle.elementary.specs.Constants.{coreFirst, coreRest};
 ghost use Rattle.elementary.specs.Arctangent.{halved, core, atanSize, atan, tangent, atan2Base, atan2};

@@ -1,6 +1,14 @@
 // Forward, inverse, place and unplace on a set, with the built-in table. A call checks its arguments, works its answer out,
 // looks at that, and only then writes the empty slots that it used.
 use answer::Check;
+use call_ends::finish::finish_face;
+use call_ends::finish::finish_lon_lat;
+use call_ends::finish::finish_place;
+use call_ends::finish::finish_spherical;
+use call_ends::leave::leave_face;
+use call_ends::leave::leave_lon_lat;
+use call_ends::leave::leave_place;
+use call_ends::leave::leave_spherical;
 use coordinates::conversions::FaceAnswer;
 use coordinates::conversions::LonLatAnswer;
 use coordinates::conversions::SphericalAnswer;
@@ -10,10 +18,6 @@ use coordinates::conversions::check_spherical;
 use coordinates::coords::Face;
 use coordinates::lonlat::LonLat;
 use coordinates::spherical::Spherical;
-use dodecahedron::leave::leave_face;
-use dodecahedron::leave::leave_lon_lat;
-use dodecahedron::leave::leave_place;
-use dodecahedron::leave::leave_spherical;
 use dodecahedron::place::PlaceAnswer;
 use dodecahedron::projection::forward_core;
 use dodecahedron::projection::inverse_core;
@@ -21,10 +25,6 @@ use dodecahedron::work::FaceWork;
 use dodecahedron::work::LonLatWork;
 use dodecahedron::work::PlaceWork;
 use dodecahedron::work::SphericalWork;
-use dodecahedron::work::finish_face;
-use dodecahedron::work::finish_lon_lat;
-use dodecahedron::work::finish_place;
-use dodecahedron::work::finish_spherical;
 use nearest::find_nearest_origin;
 use origin::origin::get_origin;
 use set::checks::check_call;

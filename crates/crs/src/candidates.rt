@@ -2,9 +2,9 @@
 use coordinates::base::Radians;
 use coordinates::coords::Cartesian;
 use coordinates::spherical::Spherical;
-use origin::quaternion::transform_quat;
 use origin::table::origin_in;
 use origin::utils::Origin;
+use quaternion::transform_quat;
 use transforms::coordinate_transforms::to_cartesian;
 ghost use mathlib.Core.Path.{_≡_};
 ghost use mathlib.Core.Bool.{true, false};

@@ -63,7 +63,7 @@ fn polar_about(origin: Origin, v: Cartesian) -> Polar
 {
     // back to the origin's own space
     let quat = origin.quat;
-    let out = origin::quaternion::transform_quat(v, origin::quaternion::quat_conjugate(quat));
+    let out = quaternion::transform_quat(v, quaternion::quat_conjugate(quat));
     // unprojected gnomonically to polar coordinates there
     let polar = transforms::gnomonic::forward(to_spherical(out));
     // turned about the face's axis, so that the origin's own angle is off

@@ -6,7 +6,7 @@ use Rattle.answer.specs.Number.{isFinite}
 use Rattle.arithmetic.specs.Arith.{ieee}
 use Rattle.arithmetic.specs.Numbers.{0·0}
 use Rattle.elementary.specs.Constants.{PI, FRAC-PI-2}
-use Rattle.square_root.specs.Signs.{abs, negative, withSign}
+use Rattle.float_parts.specs.Signs.{abs, negative, withSign}
 use Rattle.elementary.specs.Arctangent.{core, atanSize, atan, tangent, atan2Base, atan2}
 
 pub and-first : (p q : Bool) → p ≡ false → (p && q) ≡ false

@@ -19,7 +19,7 @@ use Rattle.arithmetic.specs.Arith.{ieee}
 use Rattle.arithmetic.proofs.Compared.{eq-values, cut-asks, cut-value}
 use Rattle.arithmetic.proofs.Rounding.{double-exact}
 use Rattle.arithmetic.proofs.Units.{fitting}
-use Rattle.square_root.specs.Signs.{abs, negative}
+use Rattle.float_parts.specs.Signs.{abs, negative}
 use Rattle.elementary.specs.Whole.{floorSize, roundSize, floor}
 use Rattle.elementary.specs.Whole.{round as roundAway}
 

@@ -18,7 +18,7 @@ use Rattle.arithmetic.specs.Arith.{ieee}
 use Rattle.arithmetic.specs.Numbers.{1·0}
 use Rattle.arithmetic.proofs.Bounds.{Within, within, clear, own, wider, le-within, neg-within, within-lt, round-within, mul-within, sub-within}
 use Rattle.arithmetic.proofs.Bounded.{Bounded}
-use Rattle.square_root.specs.Signs.{abs, negative}
+use Rattle.float_parts.specs.Signs.{abs, negative}
 use Rattle.remainder.proofs.Values.{own-remainder}
 use Rattle.elementary.specs.declared.sine.SinCos.{SinCos}
 use Rattle.elementary.specs.Constants.{TAU, FRAC-2-PI, FRAC-PI-2, PI-2-REST, sineFirst, sineRest, cosineFirst, cosineRest}

@@ -8,7 +8,7 @@ use lib.Ieee.{Float, nan, inf, fin, binary64, mul, rem, neg, lt, fits}
 use lib.Ieee.Fits.{rem-fits}
 use Rattle.answer.specs.Number.{isFinite}
 use Rattle.arithmetic.specs.Arith.{ieee}
-use Rattle.square_root.specs.Signs.{abs}
+use Rattle.float_parts.specs.Signs.{abs}
 use Rattle.elementary.specs.Constants.{TAU, FRAC-2-PI, sineFirst, sineRest, cosineFirst, cosineRest}
 use Rattle.elementary.specs.Whole.{roundℤ}
 use Rattle.elementary.specs.declared.sine.SinCos.{SinCos}

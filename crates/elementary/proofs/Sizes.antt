@@ -18,7 +18,7 @@ use Rattle.arithmetic.specs.Sqrt.{sqrt}
 use Rattle.arithmetic.proofs.Bounds.{Within, within, sizes, within-finite, clear, own, wider, le-within, neg-within, mul-within, add-within, sub-within, div-within}
 use Rattle.arithmetic.proofs.Bounded.{Bounded, square-clear, add-clear, div-one, one-plus, root-clear}
 use Rattle.arithmetic.proofs.Ieee754.{sqrt-fits}
-use Rattle.square_root.specs.Signs.{withSign}
+use Rattle.float_parts.specs.Signs.{withSign}
 use Rattle.elementary.specs.Constants.{PI, FRAC-PI-2, coreFirst, coreRest}
 use Rattle.elementary.specs.Sine.{series}
 use Rattle.elementary.specs.Arctangent.{halved, core, atanSize, atan, atan2Base, atan2}

@@ -21,7 +21,7 @@ use Rattle.arithmetic.proofs.Product.{mul-most, zero-plus}
 use Rattle.arithmetic.proofs.Remainder.{rem-exact}
 use Rattle.arithmetic.proofs.Rounding.{AtMost, neg-round}
 use Rattle.arithmetic.proofs.Units.{of-value, rise}
-use Rattle.square_root.specs.Signs.{abs, negative}
+use Rattle.float_parts.specs.Signs.{abs, negative}
 use Rattle.remainder.proofs.Values.{own-remainder}
 use Rattle.elementary.specs.Constants.{TAU, FRAC-2-PI}
 use Rattle.elementary.specs.Sine.{modulo4, wholeFloat}

@@ -15,7 +15,7 @@ use lib.Ieee.Fits.{round-fits}
 use lib.Ieee.Positive.{num, den, den-pos}
 use lib.Ieee.Scale.{finite}
 use Rattle.arithmetic.specs.Arith.{ieee}
-use Rattle.square_root.specs.Signs.{negative}
+use Rattle.float_parts.specs.Signs.{negative}
 use Rattle.elementary.specs.Values.{WholeLike, AtMost, BelowNext, FloorOf, RoundOf}
 use Rattle.elementary.specs.Whole.{floorSize, roundSize, floor, round}
 use Rattle.elementary.proofs.Fraction.{fraction-small, floor-whole, floor-part, round-whole, round-part, cut-back, cut-lt, up-whole, up-part, round-back, round-size-le}

@@ -5,7 +5,7 @@ use Rattle.answer.specs.Number.{isFinite}
 use Rattle.arithmetic.specs.Arith.{Arith}
 use Rattle.arithmetic.specs.Numbers.{0·0, 1·0, 4·0}
 use Rattle.elementary.specs.Constants.{PI, FRAC-PI-2, coreFirst, coreRest}
-use Rattle.square_root.specs.Signs.{abs, negative, withSign}
+use Rattle.float_parts.specs.Signs.{abs, negative, withSign}
 use Rattle.elementary.specs.Sine.{series}
 
 module _ (A : Arith) where

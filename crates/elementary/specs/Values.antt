@@ -7,7 +7,7 @@ use lib.Dec.{T}
 use lib.Ieee.{Float, binary64, fits}
 use lib.Ieee.Scale.{finite}
 use lib.Ieee.Positive.{num, den}
-use Rattle.square_root.specs.Signs.{negative}
+use Rattle.float_parts.specs.Signs.{negative}
 
 -- a whole number of the format, with x's sign
 pub record WholeLike (x r : Float) : Type 0 where

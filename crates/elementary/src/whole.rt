@@ -6,7 +6,7 @@ ghost use lib.IntN.{pos};
 ghost use lib.Ieee.{fin, lt};
 ghost use lib.Ieee.Positive.{num, den};
 ghost use Rattle.arithmetic.specs.Arith.{ieee};
-ghost use Rattle.square_root.specs.Signs.{negative};
+ghost use Rattle.float_parts.specs.Signs.{negative};
 ghost use Rattle.elementary.specs.Whole.{roundSize, floor, round};
 
 // 2^52: no value from here on has a fraction.
@@ -16,7 +16,7 @@ const LARGE: f64 = 4503599627370496.0;
 pub fn floor(x: f64) -> f64
     ensures { λ r. ⌜ r ≡ floor ieee x ⌝ }
 {
-    let a = square_root::signs::abs(x);
+    let a = float_parts::signs::abs(x);
     if !(a < LARGE) {
         return x;
     }
@@ -41,7 +41,7 @@ pub fn nearest_size(a: f64) -> u64
 pub fn round(x: f64) -> f64
     ensures { λ r. ⌜ r ≡ round ieee x ⌝ }
 {
-    let a = square_root::signs::abs(x);
+    let a = float_parts::signs::abs(x);
     if !(a < LARGE) {
         return x;
     }

@@ -3,7 +3,7 @@ use mathlib.Core.Bool.{Bool, true, false}
 use lib.Ieee.{Float, binary64, ofBits, neg, lt}
 use Rattle.arithmetic.specs.Arith.{Arith}
 use Rattle.arithmetic.specs.Numbers.{0·0, 1·0}
-use Rattle.square_root.specs.Signs.{abs, maxZero}
+use Rattle.float_parts.specs.Signs.{abs, maxZero}
 use Rattle.answer.specs.Given.{Given, answered, refused, bind}
 use Rattle.answer.specs.Answer.{numberOf}
 use Rattle.elementary.specs.Sine.{sinCosGiven}

@@ -1,4 +1,4 @@
-// Sine and remainder as C functions, for the benchmark alone: the library's calls are in crates exports, exports_tables and exports_tools.
+// Sine and remainder as C functions, for the benchmark alone: bindings/library has the crates of the library's own calls.
 use elementary::sine::SineAnswer;
 use remainder::remainder;
 use sine::sin;

@@ -19,7 +19,7 @@ pub extern "C" fn a5_panel_step(
 ) -> u8
     ensures { λ r. ⌜ StepsInC (lent frame «face_store» «sphere_store») (lentBytes block) r (stepOn ieee ORIGINS) ⌝ }
 {
-    let given = panel::step::step(frame, face_store, sphere_store, block);
+    let given = panel_step::step(frame, face_store, sphere_store, block);
     answer::status(given)
 }
 

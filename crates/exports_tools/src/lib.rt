@@ -1,7 +1,4 @@
-// What is used beside a set, as C functions: the caption box, the window and its sheet, fair turns, the square root. Crate
-// exports has the calls on a set; both go into one library, and what is said there of pointers and lengths holds here too.
-pub mod boxes;
+// Fair turns and the square root as C functions. Crate exports has the calls on a set; all crates of C functions go into one
+// library, and what is said there of pointers and lengths holds here too.
 pub mod channels;
 pub mod roots;
-pub mod sheets;
-pub mod windows;

@@ -1,5 +1,4 @@
 // The twelve origins of the faces, rotations by quaternions, and the origin nearest to a point.
 pub mod origin;
-pub mod quaternion;
 pub mod table;
 pub mod utils;

@@ -1,3 +1,2 @@
-// The caption panel: a step on 32 bytes of registers. With a table in place of the built-in one it is crate table_panel's.
+// The caption panel: its registers. The step is crate panel_step's, and with a table in place of the built-in one table_panel's.
 pub mod registers;
-pub mod step;

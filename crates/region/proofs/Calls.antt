@@ -38,12 +38,12 @@ use Rattle.coordinates.proofs.lonlat.LonLat.Laws as T′
 use Rattle.coordinates.proofs.coords.Face as R
 use Rattle.coordinates.proofs.coords.Face.Laws as R′
 use Rattle.region_work.specs.declared.region.RegionAnswer.{RegionAnswer}
-use Rattle.region_work.specs.declared.work.RegionWork.{RegionWork}
-use Rattle.region_work.proofs.work.RegionWork as K
-use Rattle.region_work.proofs.work.RegionWork.Laws as K′
-use Rattle.region_work.proofs.work.points_in as points
-use Rattle.region_work.proofs.work.count_in as count
-use Rattle.region_work.proofs.work.answer_in as answer
+use Rattle.region_core.specs.declared.work.RegionWork.{RegionWork}
+use Rattle.region_core.proofs.work.RegionWork as K
+use Rattle.region_core.proofs.work.RegionWork.Laws as K′
+use Rattle.region_core.proofs.work.points_in as points
+use Rattle.region_core.proofs.work.count_in as count
+use Rattle.region_core.proofs.work.answer_in as answer
 use Rattle.region.specs.Copies.{writtenOut}
 use Rattle.region.proofs.copies.copy_in as copy
 use Rattle.region.proofs.copies.write_out as write

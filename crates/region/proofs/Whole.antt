@@ -24,7 +24,7 @@ use Rattle.set.specs.Checks.{checkWith}
 use Rattle.place_list.specs.Lists.{Placed, placedInTurn, checkCounts}
 use Rattle.region_work.specs.declared.region.Region.{Region}
 use Rattle.region_work.specs.declared.region.RegionAnswer.{RegionAnswer}
-use Rattle.region_work.specs.declared.work.RegionWork.{RegionWork}
+use Rattle.region_core.specs.declared.work.RegionWork.{RegionWork}
 use Rattle.region_work.specs.Region.{givenRegion, checkPositions, firstFailing, checkOrigins, regionOf, RegionCalled, regionCalled, regionLeft, regionGiven, regionOn}
 use Rattle.region_work.specs.Parts.{Worked, worked, countOf, regionWorked}
 use Rattle.region.specs.Copies.{writtenOut}

@@ -17,7 +17,7 @@ use Rattle.dodecahedron.specs.Work.{Work}
 use Rattle.dodecahedron.specs.Calls.{placeGiven, placeOn}
 use Rattle.dodecahedron.specs.declared.place.Place.{Place}
 use Rattle.place_list.specs.Lists.{placedOne, placedInTurn}
-use Rattle.region_work.specs.declared.survey.Seen.{Seen}
+use Rattle.region_work.specs.declared.seen.Seen.{Seen}
 use Rattle.region_work.specs.Parts.{slotEmpty, seenNext, Surveyed, surveyed, surveyOf}
 
 snoc : {X : Type 0} (xs : List X) (y : X) (ys : List X) → (xs ++ (y ∷ [])) ++ ys ≡ xs ++ (y ∷ ys)

@@ -22,7 +22,7 @@ use Rattle.place_list.specs.Lists.{resultOf, placedOne, placedInTurn}
 use Rattle.caption_box.specs.declared.CaptionBox.{CaptionBox}
 use Rattle.caption_box.specs.Sides.{newBox, onePoint, laterPoint, grown}
 use Rattle.caption_box.specs.EveryList.{grownAll}
-use Rattle.region_work.specs.declared.survey.Seen.{Seen}
+use Rattle.region_work.specs.declared.seen.Seen.{Seen}
 use Rattle.region_work.specs.Region.{firstFailing, firstOrigin, allOn, pointsOf}
 use Rattle.region_work.specs.Parts.{slotEmpty, nothingSeen, seenNext, Surveyed, surveyed, surveyOf}
 use Rattle.region_work.proofs.Unmoved.{each}

@@ -19,7 +19,7 @@ use Rattle.triangles.proofs.Within.{answered-same}
 use Rattle.place_list.specs.Lists.{placedInTurn, checkCounts}
 use Rattle.place_list.specs.declared.PlaceResult.{PlaceResult}
 use Rattle.region_work.specs.declared.region.Region.{Region}
-use Rattle.region_work.specs.declared.survey.Seen.{Seen}
+use Rattle.region_work.specs.declared.seen.Seen.{Seen}
 use Rattle.region_work.specs.Region.{checkPositions, firstFailing, checkOrigins, pointsOf, regionOf, regionGiven}
 use Rattle.region_work.specs.Parts.{nothingSeen, Surveyed, surveyed, surveyOf, checkRegion, judged, kept, worked, regionWorked}
 use Rattle.region_work.proofs.Unmoved.{each, in-turn-each}

@@ -23,8 +23,8 @@ use Rattle.dodecahedron.specs.declared.place.Place.{Place}
 use Rattle.place_list.specs.Lists.{Placed, placedInTurn, checkCounts}
 use Rattle.caption_box.specs.Sides.{newBox, grown}
 use Rattle.region_work.specs.declared.region.Region.{Region}
-use Rattle.region_work.specs.declared.survey.Seen.{Seen}
-use Rattle.region_work.specs.declared.survey.Found.{Found}
+use Rattle.region_work.specs.declared.seen.Seen.{Seen}
+use Rattle.region_work.specs.declared.seen.Found.{Found}
 use Rattle.region_work.specs.Region.{checkPositions, RegionCalled, regionCalled, regionLeft, regionGiven}
 
 -- the built-in table, or the one that is lent

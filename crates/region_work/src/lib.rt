@@ -1,5 +1,4 @@
-// A region on one face (document 02, Paper 4), on plain values: an outline's positions are all placed on one face, or none is. The
-// positions are first worked out on the set as it stands, and stored only where the call answers.
+// A region on one face (document 02, Paper 4), on plain values: its types, with the definitions and what holds of them. An outline's
+// positions are all placed on one face, or none is. Crate region_core has the functions.
 pub mod region;
-pub mod survey;
-pub mod work;
+pub mod seen;

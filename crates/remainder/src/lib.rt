@@ -5,7 +5,7 @@ ghost use Prim.Native.Nat.{_*_, _%_, _^_, _≤_, _<_};
 ghost use lib.IntN.{pos};
 ghost use lib.Ieee.{fin, binary64, lt, rem, ofBits};
 ghost use lib.Ieee.Exact.{HasValue};
-ghost use Rattle.square_root.specs.Signs.{negative};
+ghost use Rattle.float_parts.specs.Signs.{negative};
 
 // m * 2^k mod n. What is left stays below 2^53, so a word holds it with eleven places more: one division for each eleven.
 fn shifted(m: u64, n: u64, k: u64) -> u64
@@ -43,8 +43,8 @@ fn of_patterns(p: u64, q: u64) -> u64
     requires { ⌜ (0 < p) × (p < 2047 * 2 ^ 52) × (0 < q) × (q < 2047 * 2 ^ 52) × (lt (ofBits binary64 p) (ofBits binary64 q) ≡ false) ⌝ }
     ensures { λ r. ⌜ (r < 2047 * 2 ^ 52) × (ofBits binary64 r ≡ rem binary64 (ofBits binary64 p) (ofBits binary64 q)) ⌝ }
 {
-    let s = square_root::parts::split(p);
-    let t = square_root::parts::split(q);
+    let s = float_parts::parts::split(p);
+    let t = float_parts::parts::split(q);
     let r = shifted(s.m, t.m, s.h - t.h);
     joined(r, t.h)
 }
@@ -80,8 +80,8 @@ fn unit(x: f64) -> f64
 pub fn remainder(x: f64, y: f64) -> f64
     ensures { λ r. ⌜ r ≡ rem binary64 x y ⌝ }
 {
-    let a = square_root::signs::abs(x);
-    let b = square_root::signs::abs(y);
+    let a = float_parts::signs::abs(x);
+    let b = float_parts::signs::abs(y);
     if a < b {
         return x;
     }

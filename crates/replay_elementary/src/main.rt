@@ -26,8 +26,8 @@ fn of_sine(given: SineAnswer) -> Outcome {
 fn outcome(number: u8, words: &[u8; 96]) -> Outcome {
     let x = argument(words, 0);
     match number {
-        1 => one(square_root::signs::abs(x)),
-        2 => one(square_root::signs::max_zero(x)),
+        1 => one(float_parts::signs::abs(x)),
+        2 => one(float_parts::signs::max_zero(x)),
         3 => one(elementary::whole::floor(x)),
         4 => one(elementary::whole::round(x)),
         5 => one(square_root::root::sqrt(x)),

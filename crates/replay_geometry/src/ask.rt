@@ -49,25 +49,25 @@ fn quat(words: &[u8; 96]) -> Quat {
 // A vector turned by a quaternion.
 pub fn transform_quat(words: &[u8; 96]) -> Outcome {
     let v = replay_arguments::cartesian(words, 0);
-    let r = origin::quaternion::transform_quat(v, quat(words));
+    let r = quaternion::transform_quat(v, quat(words));
     three(r.0.x, r.0.y, r.0.z)
 }
 
 // The index of the triangle of a point.
 pub fn get_face_triangle_index(words: &[u8; 96]) -> Outcome {
-    let index = tiling::index::get_face_triangle_index(replay_arguments::polar(words));
+    let index = triangle_index::get_face_triangle_index(replay_arguments::polar(words));
     whole(index as u64)
 }
 
 // A gamma as the angle from its quintant's bisector.
 pub fn normalize_gamma(words: &[u8; 96]) -> Outcome {
-    let beta = tiling::index::normalize_gamma(replay_arguments::radians(words));
+    let beta = triangle_index::normalize_gamma(replay_arguments::radians(words));
     one(beta.0)
 }
 
 // 1 for reflected, 0 for not.
 pub fn should_reflect(words: &[u8; 96]) -> Outcome {
-    if tiling::index::should_reflect(replay_arguments::polar(words)) {
+    if triangle_index::should_reflect(replay_arguments::polar(words)) {
         whole(1)
     } else {
         whole(0)

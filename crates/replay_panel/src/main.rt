@@ -4,7 +4,7 @@
 // malformed.
 use libc::STDIN_FILENO;
 use libc::STDOUT_FILENO;
-use panel::step::step;
+use panel_step::step;
 use replay::report;
 use set::open::open;
 use set::sizes::FACE_STORE;

@@ -1,6 +1,6 @@
 // A step of the caption panel, on a block that is made of a call's numbers.
 use crate::mixed::mixed;
-use panel::step::step;
+use panel_step::step;
 use replay::outcome::Outcome;
 ghost use mathlib.Core.Path.{_≡_};
 ghost use Prim.Native.Nat.{_≤_};

@@ -9,7 +9,7 @@ ghost use mathlib.Core.Bool.{true, false};
 ghost use lib.Ieee.{binary64, mul, rem, lt};
 ghost use Rattle.answer.specs.Number.{isFinite};
 ghost use Rattle.arithmetic.specs.Arith.{ieee};
-ghost use Rattle.square_root.specs.Signs.{abs};
+ghost use Rattle.float_parts.specs.Signs.{abs};
 ghost use Rattle.elementary.specs.Constants.{TAU, FRAC-2-PI, sineFirst, sineRest, cosineFirst, cosineRest};
 ghost use Rattle.elementary.specs.Whole.{roundℤ};
 ghost use Rattle.elementary.specs.Sine.{outside, givenSine, givenSinCos, sinGiven, cosGiven, sinCosGiven, tanGiven, series, modulo4, wholeFloat, sinCosReduced, sinCos, sin, cos, tan};
@@ -65,7 +65,7 @@ fn within_turn(x: f64) -> f64
     ensures left { λ r. ⌜ r ≡ rem binary64 x TAU ⌝ }
     ensures within { λ r. ⌜ lt (abs r) TAU ≡ true ⌝ }
 {
-    if square_root::signs::abs(x) < TAU {
+    if float_parts::signs::abs(x) < TAU {
         x
     } else {
         remainder::remainder(x, TAU)
@@ -215,7 +215,7 @@ pub fn is_outside(x: f64) -> bool
     if !answer::is_finite(x) {
         return false;
     }
-    64.0 < square_root::signs::abs(x)
+    64.0 < float_parts::signs::abs(x)
 }
 
 // ---- for an argument that is not outside

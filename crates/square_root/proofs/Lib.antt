@@ -1,9 +1,7 @@
 -- Laws behind the proofs of the functions.
-pub mod SignBit
 pub mod Marked
 pub mod Common
 pub mod Mask
 pub mod Lead
-pub mod Digits
 pub mod Round
 pub mod RootBits

@@ -20,7 +20,7 @@ use Rattle.arithmetic.proofs.Units.{unique}
 use Rattle.arithmetic.proofs.Count.{plus-fields, count-at}
 use Rattle.arithmetic.proofs.Width.{Wide, scaled, rootWide, sqrt-wide, scaled-half, scaled-lo, root-lo, root-hi, root-fits}
 use Rattle.square_root.specs.Root.{Radicand}
-use Rattle.square_root.specs.Signs.{negative}
+use Rattle.float_parts.specs.Signs.{negative}
 
 -- ---- which patterns are of finite values above zero
 

@@ -1,4 +1,2 @@
-// The square root, and what document 01 says of signs. Each public function is total and has no requires.
-pub mod parts;
+// The square root. Each public function is total and has no requires.
 pub mod root;
-pub mod signs;

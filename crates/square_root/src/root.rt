@@ -55,7 +55,7 @@ fn full_width(b: u64) -> Number
     requires { ⌜ (0 < b) × (b < 2047 * 2 ^ 52) ⌝ }
     ensures { λ r. ⌜ Radicand (ofBits binary64 b) (r .m) (r .e) ⌝ }
 {
-    let p = crate::parts::split(b);
+    let p = float_parts::parts::split(b);
     let n = widened(p.m, p.h);
     Number {
         m: n.a << (n.g % 2),

@@ -19,7 +19,7 @@ use Rattle.arithmetic.specs.Arith.{Arith, ieee}
 use Rattle.arithmetic.proofs.Compared.{cut-asks, cut-value}
 use Rattle.arithmetic.proofs.Remainder.{rem-exact}
 use Rattle.arithmetic.proofs.Units.{Units, rise, count}
-use Rattle.square_root.specs.Signs.{abs, negative}
+use Rattle.float_parts.specs.Signs.{abs, negative}
 use Rattle.elementary.specs.Whole.{signed, floorSize, floor, floorℤ}
 use Rattle.elementary.proofs.Values.{floor-sized}
 use Rattle.coordinates.specs.declared.base.Radians.{Radians}

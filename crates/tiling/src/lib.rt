@@ -1,4 +1,3 @@
 // The thirty triangles of a face, and the one that a point belongs to.
 pub mod face_triangles;
-pub mod index;
 pub mod tiling;

@@ -7,8 +7,8 @@ use Rattle.answer.specs.Number.{isFinite}
 use Rattle.arithmetic.specs.Arith.{ieee}
 use Rattle.elementary.specs.Arctangent.{core, tangent, atan2Base}
 use Rattle.elementary.specs.Constants.{PI}
-use Rattle.square_root.specs.Signs.{abs}
-use Rattle.square_root.proofs.SignBit.{zero-by-zero}
+use Rattle.float_parts.specs.Signs.{abs}
+use Rattle.float_parts.proofs.SignBit.{zero-by-zero}
 use Rattle.elementary.proofs.Angles.{and-first, and-then, atan2-nan, atan2-left, atan2-right}
 use Rattle.arctangent.proofs.atan2_from.Statement.{statement}
 use Rattle.arctangent.proofs.atan2_from.Tie as tie

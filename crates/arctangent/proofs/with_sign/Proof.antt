@@ -1,5 +1,5 @@
 -- `with_sign` meets its contract. Assumes nothing.
-use Rattle.square_root.specs.Signs.{withSign}
+use Rattle.float_parts.specs.Signs.{withSign}
 use Rattle.arctangent.proofs.with_sign.Statement.{statement}
 use Rattle.arctangent.proofs.with_sign.Tie as tie
 

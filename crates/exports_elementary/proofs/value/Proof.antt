@@ -1,6 +1,6 @@
 -- `value` meets its contract. Assumes nothing.
 use borrow.Author.Needs.{needs}
-use Rattle.square_root.proofs.SignBit.{zero-by-zero}
+use Rattle.float_parts.proofs.SignBit.{zero-by-zero}
 use Rattle.exports_elementary.proofs.value.Statement.{statement}
 use Rattle.exports_elementary.proofs.value.Tie as tie
 

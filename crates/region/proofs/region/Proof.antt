@@ -56,26 +56,26 @@ use Rattle.coordinates.proofs.coords.Face as R
 use Rattle.origin.specs.Origins.{ORIGINS}
 use Rattle.set.specs.Set.{Set, setOf}
 use Rattle.region_work.specs.declared.region.RegionAnswer.{RegionAnswer}
-use Rattle.region_work.specs.declared.work.RegionWork.{RegionWork}
+use Rattle.region_core.specs.declared.work.RegionWork.{RegionWork}
 use Rattle.region_work.specs.Region.{givenRegion, regionCalled, regionOn}
 use Rattle.region_work.specs.Parts.{worked, regionWorked}
 use Rattle.region_work.proofs.region.RegionAnswer as E
 use Rattle.region_work.proofs.region.RegionAnswer.Laws as E′
-use Rattle.region_work.proofs.work.RegionWork as K
-use Rattle.region_work.proofs.work.RegionWork.Laws as K′
-use Rattle.region_work.proofs.work.work as work
-use Rattle.region_work.proofs.work.work.Symbol as work-def
-use Rattle.region_work.proofs.work.work.Symbol.{name as #work}
-use Rattle.region_work.proofs.work.work.Met as work-thm
-use Rattle.region_work.proofs.work.points_in.Symbol as points-def
-use Rattle.region_work.proofs.work.points_in.Symbol.{name as #points-in}
-use Rattle.region_work.proofs.work.points_in.Met as points-thm
-use Rattle.region_work.proofs.work.count_in.Symbol as count-def
-use Rattle.region_work.proofs.work.count_in.Symbol.{name as #count-in}
-use Rattle.region_work.proofs.work.count_in.Met as count-thm
-use Rattle.region_work.proofs.work.answer_in.Symbol as answer-def
-use Rattle.region_work.proofs.work.answer_in.Symbol.{name as #answer-in}
-use Rattle.region_work.proofs.work.answer_in.Met as answer-thm
+use Rattle.region_core.proofs.work.RegionWork as K
+use Rattle.region_core.proofs.work.RegionWork.Laws as K′
+use Rattle.region_core.proofs.work.work as work
+use Rattle.region_core.proofs.work.work.Symbol as work-def
+use Rattle.region_core.proofs.work.work.Symbol.{name as #work}
+use Rattle.region_core.proofs.work.work.Met as work-thm
+use Rattle.region_core.proofs.work.points_in.Symbol as points-def
+use Rattle.region_core.proofs.work.points_in.Symbol.{name as #points-in}
+use Rattle.region_core.proofs.work.points_in.Met as points-thm
+use Rattle.region_core.proofs.work.count_in.Symbol as count-def
+use Rattle.region_core.proofs.work.count_in.Symbol.{name as #count-in}
+use Rattle.region_core.proofs.work.count_in.Met as count-thm
+use Rattle.region_core.proofs.work.answer_in.Symbol as answer-def
+use Rattle.region_core.proofs.work.answer_in.Symbol.{name as #answer-in}
+use Rattle.region_core.proofs.work.answer_in.Met as answer-thm
 use Rattle.region.proofs.Whole.{regioned}
 use Rattle.region.proofs.Calls.{Positions, Points, Copying, TakingPoints, TakingCount, TakingAnswer, Writing}
 use Rattle.region.proofs.Calls.{positions-typed, positions-made, points-typed, to-copy, goes-copy, Copied, CopyEnsured, copy-gives}
@@ -445,16 +445,16 @@ unfolding code.routine tablesOf
 region-spec 𝓤 H 𝓜 𝓖 𝓡 =
     let copying = cited 𝓤 H (Copying 𝓤 H (𝓖 .A) (𝓜 .mem) (𝓡 .run)) 𝓜 𝓡 code.env #copy-in copy-def.routine code.calls-region·copies·copy-in
     (copy-thm.met 𝓤 H 𝓜 𝓖 𝓡) in
-    let working = cited 𝓤 H (Working 𝓤 H (𝓖 .A) (𝓜 .mem) (𝓡 .run)) 𝓜 𝓡 code.env #work work-def.routine code.calls-region-work·work·work
+    let working = cited 𝓤 H (Working 𝓤 H (𝓖 .A) (𝓜 .mem) (𝓡 .run)) 𝓜 𝓡 code.env #work work-def.routine code.calls-region-core·work·work
     (work-thm.met 𝓤 H 𝓜 𝓖 𝓡) in
     let taking-points = cited 𝓤 H (TakingPoints 𝓤 H (𝓖 .A) (𝓜 .mem) (𝓡 .run)) 𝓜 𝓡 code.env #points-in points-def.routine
-    code.calls-region-work·work·points-in (points-thm.met 𝓤 H 𝓜 𝓖 𝓡) in
+    code.calls-region-core·work·points-in (points-thm.met 𝓤 H 𝓜 𝓖 𝓡) in
     let taking-count = cited 𝓤 H (TakingCount 𝓤 H (𝓖 .A) (𝓜 .mem) (𝓡 .run)) 𝓜 𝓡 code.env #count-in count-def.routine
-    code.calls-region-work·work·count-in (count-thm.met 𝓤 H 𝓜 𝓖 𝓡) in
+    code.calls-region-core·work·count-in (count-thm.met 𝓤 H 𝓜 𝓖 𝓡) in
     let writing = cited 𝓤 H (Writing 𝓤 H (𝓖 .A) (𝓜 .mem) (𝓡 .run)) 𝓜 𝓡 code.env #write-out write-def.routine code.calls-region·copies·write-out
     (write-thm.met 𝓤 H 𝓜 𝓖 𝓡) in
     let taking-answer = cited 𝓤 H (TakingAnswer 𝓤 H (𝓖 .A) (𝓜 .mem) (𝓡 .run)) 𝓜 𝓡 code.env #answer-in answer-def.routine
-    code.calls-region-work·work·answer-in (answer-thm.met 𝓤 H 𝓜 𝓖 𝓡) in
+    code.calls-region-core·work·answer-in (answer-thm.met 𝓤 H 𝓜 𝓖 𝓡) in
     entered 𝓤 H (tripleOf 𝓤 H (𝓖 .A) f.signature (f.spec 𝓤 H (𝓖 .A) (𝓜 .mem) (𝓡 .run)))
     (tables 𝓤 H 𝓜 𝓡 code.env .C) (tables 𝓤 H 𝓜 𝓡 code.env .Λ) #region code.function (code.unfolded 𝓤 H 𝓜 𝓡)
     (meets 𝓤 H (𝓖 .A) (givenOf 𝓤 H 𝓜 𝓖) (𝓜 .mem) (𝓡 .run) (tablesOf 𝓤 H 𝓜 (tables 𝓤 H 𝓜 𝓡 code.env))

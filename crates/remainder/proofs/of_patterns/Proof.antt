@@ -5,7 +5,7 @@ use native.Mathlib.Nat.{mod-lt}
 use native.Mathlib.Omega.{arith}
 use lib.Ieee.{binary64, ofBits}
 use lib.Ieee.Bits.{ofBits-fits}
-use Rattle.square_root.proofs.Digits.{Split, split-is}
+use Rattle.float_parts.proofs.Digits.{Split, split-is}
 use Rattle.remainder.proofs.Values.{higher, made}
 use Rattle.remainder.proofs.of_patterns.Statement.{statement}
 use Rattle.remainder.proofs.of_patterns.Tie as tie

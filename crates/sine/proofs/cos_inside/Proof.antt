@@ -5,7 +5,7 @@ use borrow.Author.Tests.{not-true, not-false}
 use Rattle.answer.specs.Number.{isFinite}
 use Rattle.elementary.specs.declared.sine.SinCos.{SinCos}
 use Rattle.elementary.specs.Sine.{cos}
-use Rattle.square_root.proofs.SignBit.{zero-by-zero}
+use Rattle.float_parts.proofs.SignBit.{zero-by-zero}
 use Rattle.elementary.proofs.Quarters.{otherwise-nan, by-turns}
 use Rattle.sine.proofs.cos_inside.Statement.{statement}
 use Rattle.sine.proofs.cos_inside.Tie as tie

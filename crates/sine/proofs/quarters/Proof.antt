@@ -11,8 +11,8 @@ use lib.Ieee.{Float, binary64, mul, inFloat, fits}
 use lib.Ieee.Positive.{num, den}
 use Rattle.arithmetic.specs.Arith.{ieee}
 use Rattle.arithmetic.proofs.Rounding.{AtMost}
-use Rattle.square_root.specs.Signs.{negative}
-use Rattle.square_root.proofs.SignBit.{abs-positive}
+use Rattle.float_parts.specs.Signs.{negative}
+use Rattle.float_parts.proofs.SignBit.{abs-positive}
 use Rattle.elementary.specs.Constants.{FRAC-2-PI}
 use Rattle.elementary.specs.Sine.{modulo4, wholeFloat}
 use Rattle.elementary.specs.Whole.{roundSize, roundℤ}

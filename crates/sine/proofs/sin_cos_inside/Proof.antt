@@ -3,7 +3,7 @@ use mathlib.Core.Path.{_≡_, sym, _∙_}
 use mathlib.Core.Bool.{true}
 use borrow.Author.Tests.{not-true, not-false}
 use Rattle.answer.specs.Number.{isFinite}
-use Rattle.square_root.proofs.SignBit.{zero-by-zero}
+use Rattle.float_parts.proofs.SignBit.{zero-by-zero}
 use Rattle.elementary.proofs.Quarters.{otherwise-nan, by-turns}
 use Rattle.sine.proofs.sin_cos_inside.Statement.{statement}
 use Rattle.sine.proofs.sin_cos_inside.Tie as tie

@@ -4,7 +4,7 @@ use mathlib.Core.Bool.{true, not, false≢true}
 use lib.Dec.{T}
 use lib.Ieee.{Float, nan, inf, fin, binary64, fits, isNan}
 use Rattle.answer.specs.Number.{isFinite}
-use Rattle.square_root.proofs.SignBit.{cleared, cleared-number}
+use Rattle.float_parts.proofs.SignBit.{cleared, cleared-number}
 use Rattle.sine.proofs.size.Statement.{statement}
 use Rattle.sine.proofs.size.Tie as tie
 

@@ -4,7 +4,7 @@ use mathlib.Core.Bool.{true}
 use borrow.Author.Needs.{needs}
 use lib.Dec.{T}
 use lib.Ieee.{binary64, lt, fits, rem}
-use Rattle.square_root.specs.Signs.{abs}
+use Rattle.float_parts.specs.Signs.{abs}
 use Rattle.elementary.specs.Constants.{TAU}
 use Rattle.elementary.proofs.Turn.{left-within, within-own}
 use Rattle.sine.proofs.within_turn.Statement.{statement}

@@ -10,7 +10,7 @@ use lib.Ieee.{Float, binary64, lt, ofInt, ofBits, inFloat}
 use lib.Ieee.Positive.{num, den, den-pos}
 use Rattle.arithmetic.proofs.Rounding.{neg-round}
 use Rattle.elementary.specs.Whole.{roundSize}
-use Rattle.square_root.proofs.SignBit.{abs-positive}
+use Rattle.float_parts.proofs.SignBit.{abs-positive}
 use Rattle.elementary.proofs.Fraction.{2^52, Below, below, same-size, Fraction, large-whole, equal, unequal, sign-is, round-back, round-whole, round-part}
 use Rattle.elementary.proofs.whole.round.Statement.{statement}
 use Rattle.elementary.proofs.whole.round.Tie as tie

@@ -8,7 +8,7 @@ use native.Mathlib.Omega.{arith}
 use lib.Ieee.{binary64, ofBits}
 use Rattle.arithmetic.proofs.Count.{scale}
 use Rattle.arithmetic.proofs.Width.{scaled-half}
-use Rattle.square_root.proofs.Digits.{Split, split-is}
+use Rattle.float_parts.proofs.Digits.{Split, split-is}
 use Rattle.square_root.proofs.root.full_width.Statement.{statement}
 use Rattle.square_root.proofs.root.full_width.Tie as tie
 

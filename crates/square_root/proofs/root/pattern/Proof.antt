@@ -12,7 +12,7 @@ use lib.Ieee.Bits.{ofBits-toBits}
 use lib.Ieee.Positive.{positive}
 use Rattle.answer.proofs.NotANumber.{is-nan, is-number}
 use Rattle.square_root.specs.Root.{Pattern}
-use Rattle.square_root.proofs.SignBit.{sign-bit}
+use Rattle.float_parts.proofs.SignBit.{sign-bit}
 use Rattle.square_root.proofs.RootBits.{top-not-positive, negative-not-positive}
 use Rattle.square_root.proofs.root.pattern.Statement.{statement}
 use Rattle.square_root.proofs.root.pattern.Tie as tie

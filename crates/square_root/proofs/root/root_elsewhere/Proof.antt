@@ -1,6 +1,6 @@
 -- `root_elsewhere` meets its contract. Assumes nothing.
 use mathlib.Core.Path.{_∙_}
-use Rattle.square_root.proofs.SignBit.{zero-by-zero}
+use Rattle.float_parts.proofs.SignBit.{zero-by-zero}
 use Rattle.square_root.proofs.RootBits.{below-zero, own-root}
 use Rattle.square_root.proofs.root.root_elsewhere.Statement.{statement}
 use Rattle.square_root.proofs.root.root_elsewhere.Tie as tie

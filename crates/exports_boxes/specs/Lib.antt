@@ -1,0 +1,2 @@
+-- The caption box as C functions: what they return, and what they leave. Definitions only.
+pub mod Boxes
