@@ -29,7 +29,7 @@ fn apply_coefficients(phi: Radians, c: [f64; 6]) -> Radians
     requires { ⌜ outside (phi .0) ≡ false ⌝ }
     ensures { λ r. ⌜ r ≡ applyCoefficients ieee phi c ⌝ }
 {
-    let p = sine::sin_cos_inside(phi.0);
+    let p = sine_inside::sin_cos_inside(phi.0);
     let sin_phi = p.sin;
     let cos_phi = p.cos;
     let x = 2.0 * (cos_phi - sin_phi) * (cos_phi + sin_phi);

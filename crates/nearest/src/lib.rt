@@ -4,7 +4,7 @@ use answer::Refusal;
 use coordinates::spherical::Spherical;
 use origin::table::check_rows;
 use origin::table::origin_in;
-use sine::sin_inside;
+use sine_inside::sin_inside;
 ghost use mathlib.Core.Path.{_≡_};
 ghost use mathlib.Core.Bool.{true, false};
 ghost use lib.ListN.{length};

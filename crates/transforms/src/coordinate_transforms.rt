@@ -13,7 +13,7 @@ use coordinates::spherical::Spherical;
 use coordinates::vec2::Vec2;
 use coordinates::vec3::Vec3;
 use remainder::remainder;
-use sine::sin_cos_inside;
+use sine_inside::sin_cos_inside;
 use square_root::root::sqrt;
 ghost use mathlib.Core.Path.{_≡_};
 ghost use mathlib.Core.Bool.{false};

@@ -3,8 +3,8 @@ use mathlib.Core.Path.{refl}
 use lib.Ieee.{ofBits}
 use Rattle.elementary.specs.Constants.{cosineFirst, cosineRest}
 use Rattle.elementary.specs.Sine.{series}
-use Rattle.sine.proofs.cosine_series.Statement.{statement}
-use Rattle.sine.proofs.cosine_series.Tie as tie
+use Rattle.sine_series.proofs.cosine_series.Statement.{statement}
+use Rattle.sine_series.proofs.cosine_series.Tie as tie
 
 pub cosine-series-spec : {M : Type 1} → statement M
 unfolding series cosineFirst cosineRest ofBits

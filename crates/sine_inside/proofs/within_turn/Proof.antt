@@ -7,8 +7,8 @@ use lib.Ieee.{binary64, lt, fits, rem}
 use Rattle.float_parts.specs.Signs.{abs}
 use Rattle.elementary.specs.Constants.{TAU}
 use Rattle.elementary.proofs.Turn.{left-within, within-own}
-use Rattle.sine.proofs.within_turn.Statement.{statement}
-use Rattle.sine.proofs.within_turn.Tie as tie
+use Rattle.sine_inside.proofs.within_turn.Statement.{statement}
+use Rattle.sine_inside.proofs.within_turn.Tie as tie
 
 held : (c : tie.Start) → T (fits binary64 (c .args .x))
 held c = rw (c .good .0 .1) tt

@@ -1,7 +1,7 @@
 -- `sin_cos_at` meets its contract, after each count of quarter turns. Assumes nothing.
 use Rattle.elementary.proofs.Quarters.{after-0, after-1, after-2, after-3}
-use Rattle.sine.proofs.sin_cos_at.Statement.{statement}
-use Rattle.sine.proofs.sin_cos_at.Tie as tie
+use Rattle.sine_series.proofs.sin_cos_at.Statement.{statement}
+use Rattle.sine_series.proofs.sin_cos_at.Tie as tie
 
 returns : tie.Need-returns
 returns c =

@@ -3,8 +3,8 @@ use lib.Dec.{T}
 use lib.Ieee.{binary64, fits}
 use Rattle.elementary.specs.Sine.{reduced}
 use Rattle.elementary.proofs.Quarters.{reduced-pair}
-use Rattle.sine.proofs.to_quarter.Statement.{statement}
-use Rattle.sine.proofs.to_quarter.Tie as tie
+use Rattle.sine_inside.proofs.to_quarter.Statement.{statement}
+use Rattle.sine_inside.proofs.to_quarter.Tie as tie
 
 returns : tie.Need-returns
 unfolding reduced

@@ -19,8 +19,8 @@ use Rattle.elementary.specs.Whole.{roundSize, roundℤ}
 use Rattle.elementary.proofs.Fraction.{same-size}
 use Rattle.elementary.proofs.Turn.{quartersMost, quarters-few, few-finite, size-asks, nearest-is}
 use Rattle.elementary.proofs.Turn.{plus-float, minus-float, plus-quarter, minus-quarter}
-use Rattle.sine.proofs.quarters.Statement.{statement}
-use Rattle.sine.proofs.quarters.Tie as tie
+use Rattle.sine_inside.proofs.quarters.Statement.{statement}
+use Rattle.sine_inside.proofs.quarters.Tie as tie
 
 -- the count of quarter turns, q
 count : tie.Start → Float

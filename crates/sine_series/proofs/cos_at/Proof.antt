@@ -2,8 +2,8 @@
 use mathlib.Core.Path.{ap}
 use lib.Ieee.{neg}
 use Rattle.elementary.proofs.Quarters.{after-0, after-1, after-2, after-3}
-use Rattle.sine.proofs.cos_at.Statement.{statement}
-use Rattle.sine.proofs.cos_at.Tie as tie
+use Rattle.sine_series.proofs.cos_at.Statement.{statement}
+use Rattle.sine_series.proofs.cos_at.Tie as tie
 
 returns : tie.Need-returns
 returns c = rw (after-0 _ _ (c .before .if1 .taken)) (c .cosine-series .ensures)

@@ -3,8 +3,8 @@ use mathlib.Core.Path.{refl}
 use lib.Ieee.{ofBits}
 use Rattle.elementary.specs.Constants.{sineFirst, sineRest}
 use Rattle.elementary.specs.Sine.{series}
-use Rattle.sine.proofs.sine_series.Statement.{statement}
-use Rattle.sine.proofs.sine_series.Tie as tie
+use Rattle.sine_series.proofs.sine_series.Statement.{statement}
+use Rattle.sine_series.proofs.sine_series.Tie as tie
 
 pub sine-series-spec : {M : Type 1} → statement M
 unfolding series sineFirst sineRest ofBits

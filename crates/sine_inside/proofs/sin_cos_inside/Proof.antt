@@ -5,8 +5,8 @@ use borrow.Author.Tests.{not-true, not-false}
 use Rattle.answer.specs.Number.{isFinite}
 use Rattle.float_parts.proofs.SignBit.{zero-by-zero}
 use Rattle.elementary.proofs.Quarters.{otherwise-nan, by-turns}
-use Rattle.sine.proofs.sin_cos_inside.Statement.{statement}
-use Rattle.sine.proofs.sin_cos_inside.Tie as tie
+use Rattle.sine_inside.proofs.sin_cos_inside.Statement.{statement}
+use Rattle.sine_inside.proofs.sin_cos_inside.Tie as tie
 
 returns : tie.Need-returns
 returns c = rw (zero-by-zero, otherwise-nan _ (sym (c .before .is-finite .ensures) ∙ not-true _ (c .if1 .taken)))

@@ -5,8 +5,8 @@ use lib.Dec.{T}
 use lib.Ieee.{Float, nan, inf, fin, binary64, fits, isNan}
 use Rattle.answer.specs.Number.{isFinite}
 use Rattle.float_parts.proofs.SignBit.{cleared, cleared-number}
-use Rattle.sine.proofs.size.Statement.{statement}
-use Rattle.sine.proofs.size.Tie as tie
+use Rattle.sine_inside.proofs.size.Statement.{statement}
+use Rattle.sine_inside.proofs.size.Tie as tie
 
 held : (c : tie.Start) → T (fits binary64 (c .args .q))
 held c = rw (c .good .0 .1) tt
