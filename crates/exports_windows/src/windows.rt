@@ -18,7 +18,7 @@ pub extern "C" fn a5_window_new(window: &mut Window)
 pub extern "C" fn a5_window_add(window: &mut Window, minute: u32, origin: u8) -> u8
     ensures { λ r. ⌜ AddedFor (now (window .entry)) minute origin r (now (window .exit)) ⌝ }
 {
-    let given = window::add(window, minute, origin);
+    let given = lent_window::add(window, minute, origin);
     answer::status(given)
 }
 

@@ -1,6 +1,5 @@
 -- What the proofs of this crate share, and the theorem over every list of additions.
 pub mod Ways
-pub mod Parts
 pub mod Recent
 pub mod Counted
 pub mod Ring

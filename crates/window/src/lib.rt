@@ -1,6 +1,6 @@
 // Paper 5: a window of strikes. It keeps those whose minute is less than 180 behind that of the last one accepted, at most
-// 4,096, in a ring, and counts them by origin. `add` is lent the window and copies none of its arrays; `add_to_parts` does
-// the work, on the arrays and a small state. No function has a `requires`: whatever a window holds, an addition ends.
+// 4,096, in a ring, and counts them by origin. `add_to_parts` is an addition, on the arrays and a small state; that to a
+// window which is lent is crate `lent_window`. No function has a `requires`: whatever a window holds, an addition ends.
 use answer::Check;
 use answer::Refusal;
 use window_ring::lower_counts;
@@ -113,21 +113,4 @@ pub fn add_to_parts(
             last: minute,
         },
     }
-}
-
-// One addition to the window that is lent: strikes 180 minutes or more behind it are dropped, and it is kept; or it is
-// refused with 4, 17 or 18, and the window is as it was.
-pub fn add(window: &mut Window, minute: u32, origin: u8) -> Check
-    ensures { λ r. ⌜ AddedTo (now (window .entry)) minute origin r (now (window .exit)) ⌝ }
-{
-    let s = add_to_parts(
-        &mut window.minutes,
-        &mut window.origins,
-        &mut window.counts,
-        window.state,
-        minute,
-        origin,
-    );
-    window.state = s.state;
-    s.answer
 }

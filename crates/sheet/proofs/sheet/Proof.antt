@@ -47,7 +47,7 @@ use denote.Exit.{yes}
 use Rattle.window.specs.declared.Window.{Window}
 use Rattle.window.proofs.Window as T
 use Rattle.window.proofs.Window.Laws as T′
-use Rattle.window.proofs.Parts.{Words, wordsVal, WindowIs, counts-are}
+use Rattle.lent_window.proofs.Parts.{Words, wordsVal, WindowIs, counts-are}
 use Rattle.sheet.specs.Sheet.{SheetOf}
 use Rattle.answer.specs.declared.Check.{Check}
 use Rattle.answer.proofs.Check as E

@@ -1,4 +1,4 @@
--- `windows::a5_window_add` meets its contract: a walk of its MIR, by hand. The window is given on to `window::add` for good, and its answer goes to
+-- `windows::a5_window_add` meets its contract: a walk of its MIR, by hand. The window is given on to `lent_window::add` for good, and its answer goes to
 -- `answer::status`. Of the two only the contracts are known. Assumes nothing.
 use mathlib.Core.Path.{_≡_, refl, _∙_, ap}
 use Prim.Native.Nat.{ℕ, _<_, _^_}
@@ -48,15 +48,15 @@ use Rattle.answer.proofs.status.Met as number-thm
 use Rattle.window.specs.declared.Window.{Window}
 use Rattle.window.specs.Addition.{AddedTo}
 use Rattle.window.proofs.Window as T
-use Rattle.window.proofs.add as add
-use Rattle.window.proofs.add.Symbol as add-def
-use Rattle.window.proofs.add.Symbol.{name as #window·add}
-use Rattle.window.proofs.add.Met as add-thm
-use Rattle.exports_windows.specs.Windows.{AddedFor}
-use Rattle.exports_windows.proofs.windows.a5_window_add.Key.{name as #exports-windows·windows·a5-window-add}
-use Rattle.exports_windows.proofs.windows.a5_window_add as f
-use Rattle.exports_windows.proofs.windows.a5_window_add.Statement as stated
-use Rattle.exports_windows.proofs.windows.a5_window_add.Code as code
+use Rattle.lent_window.proofs.add as add
+use Rattle.lent_window.proofs.add.Symbol as add-def
+use Rattle.lent_window.proofs.add.Symbol.{name as #lent-window·add}
+use Rattle.lent_window.proofs.add.Met as add-thm
+use Rattle.exports_tools.specs.Windows.{AddedFor}
+use Rattle.exports_tools.proofs.windows.a5_window_add.Key.{name as #exports-tools·windows·a5-window-add}
+use Rattle.exports_tools.proofs.windows.a5_window_add as f
+use Rattle.exports_tools.proofs.windows.a5_window_add.Statement as stated
+use Rattle.exports_tools.proofs.windows.a5_window_add.Code as code
 
 -- the arguments: the window, the minute, the origin
 abbrev Arg : Type 0
@@ -78,7 +78,7 @@ module _ {M : Type 1} (𝓤 : URA M) (H : Heap 𝓤) (A : Atoms 𝓤) (at-mem : 
   Numbering = tripleOf 𝓤 H A number.signature (number.spec 𝓤 H A at-mem run)
 
   abbrev Known : Calls 𝓤 H → Type 1
-  Known C = Triple 𝓤 (C #window·add) Adding × Triple 𝓤 (C #answer·status) Numbering
+  Known C = Triple 𝓤 (C #lent-window·add) Adding × Triple 𝓤 (C #answer·status) Numbering
 
 -- the window h lies at b, o and is lent for κ under the name γ; m is the minute and k the origin
 module _ {M : Type 1} (𝓤 : URA M) (H : Heap 𝓤) (A : Atoms 𝓤) (W : Given 𝓤 H A) (at-mem : Memory → SProp 𝓤) (run : Routine → Fun 𝓤)
@@ -198,7 +198,7 @@ meets 𝓤 H A W at-mem run 𝓣 known =
 pub a5-window-add-spec : {M : Type 1} → stated.statement M
 unfolding code.routine tablesOf
 a5-window-add-spec 𝓤 H 𝓜 𝓖 𝓡 =
-    let adds = cited 𝓤 H (Adding 𝓤 H (𝓖 .A) (𝓜 .mem) (𝓡 .run)) 𝓜 𝓡 code.env #window·add add-def.routine code.calls-window·add (add-thm.met 𝓤 H 𝓜 𝓖 𝓡) in
+    let adds = cited 𝓤 H (Adding 𝓤 H (𝓖 .A) (𝓜 .mem) (𝓡 .run)) 𝓜 𝓡 code.env #lent-window·add add-def.routine code.calls-lent-window·add (add-thm.met 𝓤 H 𝓜 𝓖 𝓡) in
     let numbers = cited 𝓤 H (Numbering 𝓤 H (𝓖 .A) (𝓜 .mem) (𝓡 .run)) 𝓜 𝓡 code.env #answer·status number-def.routine
     code.calls-answer·status (number-thm.met 𝓤 H 𝓜 𝓖 𝓡) in
     entered 𝓤 H (tripleOf 𝓤 H (𝓖 .A) f.signature (f.spec 𝓤 H (𝓖 .A) (𝓜 .mem) (𝓡 .run)))

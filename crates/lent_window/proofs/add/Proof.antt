@@ -1,4 +1,4 @@
--- `window::add` meets its contract: a walk of its MIR, by hand, since the borrow checker covers no reference to a struct.
+-- `lent_window::add` meets its contract: a walk of its MIR, by hand, since the borrow checker covers no reference to a struct.
 -- The borrow is opened, the window is taken apart into its three arrays and its state (`Parts`), each array is lent to `add_to_parts` for a lifetime of the
 -- call, the window is put together again of what comes back, the new state is stored, and the borrow is closed. Of `add_to_parts` only the contract is known.
 -- Assumes nothing.
@@ -50,26 +50,26 @@ use denote.Exit.{yes}
 use Rattle.answer.specs.declared.Check.{Check}
 use Rattle.answer.proofs.Check as E
 use Rattle.answer.proofs.Check.Laws as E′
 use Rattle.window.specs.declared.State.{State}
 use Rattle.window.specs.declared.Step.{Step}
 use Rattle.window.specs.declared.Window.{Window}
 use Rattle.window.specs.Window.{windowOf}
 use Rattle.window.specs.Addition.{AddedTo}
 use Rattle.window.proofs.Window as T
 use Rattle.window.proofs.Window.Laws as T′
 use Rattle.window.proofs.State as S
 use Rattle.window.proofs.State.Laws as S′
 use Rattle.window.proofs.Step as G
 use Rattle.window.proofs.Step.Laws as G′
-use Rattle.window.proofs.Parts.{Words, WordsAre, StateIs, state-low, state-is, window-is, MinutesAt, OriginsAt, CountsAt, StateAt, WindowAt, Back, takes-apart, puts-together}
+use Rattle.lent_window.proofs.Parts.{Words, WordsAre, StateIs, state-low, state-is, window-is, MinutesAt, OriginsAt, CountsAt, StateAt, WindowAt, Back, takes-apart, puts-together}
 use Rattle.window.proofs.add_to_parts as parts
 use Rattle.window.proofs.add_to_parts.Symbol as parts-def
 use Rattle.window.proofs.add_to_parts.Symbol.{name as #window·add-to-parts}
 use Rattle.window.proofs.add_to_parts.Met as parts-thm
-use Rattle.window.proofs.add.Key.{name as #window·add}
-use Rattle.window.proofs.add as f
-use Rattle.window.proofs.add.Statement as stated
-use Rattle.window.proofs.add.Code as code
+use Rattle.lent_window.proofs.add.Key.{name as #lent-window·add}
+use Rattle.lent_window.proofs.add as f
+use Rattle.lent_window.proofs.add.Statement as stated
+use Rattle.lent_window.proofs.add.Code as code
 
 -- the arguments: the window, the minute, the origin
 abbrev Arg : Type 0
@@ -309,7 +309,7 @@ pub add-spec : {M : Type 1} → stated.statement M
 unfolding code.routine tablesOf
 add-spec 𝓤 H 𝓜 𝓖 𝓡 =
     entered 𝓤 H (tripleOf 𝓤 H (𝓖 .A) f.signature (f.spec 𝓤 H (𝓖 .A) (𝓜 .mem) (𝓡 .run)))
-    (tables 𝓤 H 𝓜 𝓡 code.env .C) (tables 𝓤 H 𝓜 𝓡 code.env .Λ) #window·add code.function (code.unfolded 𝓤 H 𝓜 𝓡)
+    (tables 𝓤 H 𝓜 𝓡 code.env .C) (tables 𝓤 H 𝓜 𝓡 code.env .Λ) #lent-window·add code.function (code.unfolded 𝓤 H 𝓜 𝓡)
     (meets 𝓤 H (𝓖 .A) (givenOf 𝓤 H 𝓜 𝓖) (𝓜 .mem) (𝓡 .run) (tablesOf 𝓤 H 𝓜 (tables 𝓤 H 𝓜 𝓡 code.env))
     (cited 𝓤 H (Adding 𝓤 H (𝓖 .A) (𝓜 .mem) (𝓡 .run)) 𝓜 𝓡 code.env #window·add-to-parts parts-def.routine code.calls-window·add-to-parts
     (parts-thm.met 𝓤 H 𝓜 𝓖 𝓡)))

@@ -1,0 +1,2 @@
+-- What the proofs over a lent window share.
+pub mod Parts
