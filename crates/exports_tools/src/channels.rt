@@ -10,6 +10,6 @@ pub extern "C" fn a5_fair_turns(wishes: &[u16], grants: &mut [u16]) -> u8
     ensures grants { λ _. ⌜ now (grants .exit)
         ≡ grantsAfter (turnsGiven (now (wishes .entry)) (now (grants .entry))) (now (wishes .entry)) (now (grants .entry)) ⌝ }
 {
-    let given = turns::fair_turns(wishes, grants);
+    let given = fair_turns::fair_turns(wishes, grants);
     answer::status(given)
 }

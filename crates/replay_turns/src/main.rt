@@ -56,7 +56,7 @@ fn agrees(
     if n > wishes.len() || m > grants.len() {
         return false;
     }
-    let given = answer::status(turns::fair_turns(&wishes[..n], &mut grants[..m]));
+    let given = answer::status(fair_turns::fair_turns(&wishes[..n], &mut grants[..m]));
     given == stored && same(grants, after)
 }
 

@@ -1,4 +1,4 @@
--- Laws behind the proofs of the functions, and the theorems about the grants.
+-- Laws behind the proofs of the functions, here and in crate `fair_turns`, and the theorems about the grants.
 pub mod Rounds
 pub mod Level
 pub mod Passes

@@ -6,10 +6,10 @@ use native.Mathlib.Nat.{zero-add}
 use native.Mathlib.Omega.{arith}
 use borrow.Author.Needs.{needs}
 use lib.ListN.{length, drop}
 use Rattle.turns.specs.Turns.{sum, capped}
 use Rattle.turns.proofs.Passes.{count-next, count-end}
-use Rattle.turns.proofs.handed_out.Statement.{statement}
-use Rattle.turns.proofs.handed_out.Tie as tie
+use Rattle.fair_turns.proofs.handed_out.Statement.{statement}
+use Rattle.fair_turns.proofs.handed_out.Tie as tie
 
 abbrev Inv-loop : tie.InvT-loop
 Inv-loop wishes level calls₀ i₀ calls i = (i ≤ length wishes) × (calls + sum (capped level (drop i wishes)) ≡ sum (capped level wishes))

@@ -6,11 +6,11 @@ use Prim.Native.Nat.{_-_, _≤_, zero-le, min}
 use native.Mathlib.Omega.{arith}
 use borrow.Author.Needs.{needs}
 use lib.ListN.{length, getD, take, drop, length-set}
 use Rattle.turns.specs.Turns.{capped, stillShort, round}
 use Rattle.turns.proofs.Rounds.{within-wish}
 use Rattle.turns.proofs.Passes.{write-next, write-end}
-use Rattle.turns.proofs.last_round.Statement.{statement}
-use Rattle.turns.proofs.last_round.Tie as tie
+use Rattle.fair_turns.proofs.last_round.Statement.{statement}
+use Rattle.fair_turns.proofs.last_round.Tie as tie
 
 abbrev Inv-loop : tie.InvT-loop
 Inv-loop wishes level calls grants₀ left₀ i₀ grants left i =

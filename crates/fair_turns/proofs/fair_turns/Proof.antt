@@ -3,10 +3,10 @@ use mathlib.Core.Path.{refl, ap, _∙_}
 use Prim.Native.Nat.{ℕ, _-_}
 use borrow.Author.Needs.{needs}
 use borrow.Author.Tests.{eq-eqb, ne-eqb}
 use Rattle.turns.specs.Turns.{CALLS, capped, round, turnsGiven}
 use Rattle.turns.proofs.Level.{last-round-is}
-use Rattle.turns.proofs.fair_turns.Statement.{statement}
-use Rattle.turns.proofs.fair_turns.Tie as tie
+use Rattle.fair_turns.proofs.fair_turns.Statement.{statement}
+use Rattle.fair_turns.proofs.fair_turns.Tie as tie
 
 returns : tie.Need-returns
 unfolding turnsGiven

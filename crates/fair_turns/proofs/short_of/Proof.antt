@@ -6,12 +6,12 @@ use native.Mathlib.Nat.{zero-add}
 use native.Mathlib.Omega.{arith}
 use borrow.Author.Needs.{needs}
 use lib.ListN.{length, drop}
 use Rattle.turns.specs.Turns.{stillShort}
 use Rattle.turns.specs.Levels.{shortOf}
 use Rattle.turns.proofs.Rounds.{short-most}
 use Rattle.turns.proofs.Passes.{count-next, count-end}
-use Rattle.turns.proofs.short_of.Statement.{statement}
-use Rattle.turns.proofs.short_of.Tie as tie
+use Rattle.fair_turns.proofs.short_of.Statement.{statement}
+use Rattle.fair_turns.proofs.short_of.Tie as tie
 
 abbrev Inv-loop : tie.InvT-loop
 Inv-loop wishes level channels₀ i₀ channels i = (i ≤ length wishes) × (channels + shortOf level (drop i wishes) ≡ shortOf level wishes)

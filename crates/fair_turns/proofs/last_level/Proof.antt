@@ -6,10 +6,10 @@ use Prim.Native.Nat.{ℕ, _-_}
 use native.Mathlib.Omega.{arith}
 use borrow.Author.Needs.{needs}
 use borrow.Author.Tests.{leb-true, leb-false}
 use Rattle.turns.specs.Turns.{CALLS}
 use Rattle.turns.proofs.Level.{first-within, Reached, jump-fits, jump-within, jump-more}
-use Rattle.turns.proofs.last_level.Statement.{statement}
-use Rattle.turns.proofs.last_level.Tie as tie
+use Rattle.fair_turns.proofs.last_level.Statement.{statement}
+use Rattle.fair_turns.proofs.last_level.Tie as tie
 
 abbrev Inv-loop : tie.InvT-loop
 Inv-loop wishes level₀ left₀ short₀ level left short = Reached wishes level left short
