@@ -34,7 +34,7 @@ fn outcome(number: u8, words: &[u8; 96]) -> Outcome {
         6 => of_sine(sine::sin(x)),
         7 => of_sine(sine::cos(x)),
         8 => of_sine(sine::tan(x)),
-        9 => one(arctangent::core(x)),
+        9 => one(arctangent_core::core(x)),
         10 => one(arctangent::atan(x)),
         11 => one(arctangent::atan2(x, argument(words, 1))),
         12 => match sin_cos(x) {

@@ -1,8 +1,8 @@
 -- `core` meets its contract. Assumes nothing.
 use lib.Ieee.{ofBits}
 use Rattle.elementary.specs.Arctangent.{core}
-use Rattle.arctangent.proofs.core.Statement.{statement}
-use Rattle.arctangent.proofs.core.Tie as tie
+use Rattle.arctangent_core.proofs.core.Statement.{statement}
+use Rattle.arctangent_core.proofs.core.Tie as tie
 
 pub core-spec : {M : Type 1} → statement M
 unfolding core ofBits

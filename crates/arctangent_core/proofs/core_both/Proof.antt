@@ -1,8 +1,8 @@
 -- `core_both` meets its contract. Assumes nothing.
 use lib.Ieee.{ofBits}
 use Rattle.elementary.specs.Arctangent.{core}
-use Rattle.arctangent.proofs.core_both.Statement.{statement}
-use Rattle.arctangent.proofs.core_both.Tie as tie
+use Rattle.arctangent_core.proofs.core_both.Statement.{statement}
+use Rattle.arctangent_core.proofs.core_both.Tie as tie
 
 returns : tie.Need-returns
 unfolding core ofBits

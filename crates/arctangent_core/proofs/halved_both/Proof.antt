@@ -1,8 +1,8 @@
 -- `halved_both` meets its contract. Assumes nothing.
 use lib.Ieee.{ofBits}
 use Rattle.elementary.specs.Arctangent.{halved}
-use Rattle.arctangent.proofs.halved_both.Statement.{statement}
-use Rattle.arctangent.proofs.halved_both.Tie as tie
+use Rattle.arctangent_core.proofs.halved_both.Statement.{statement}
+use Rattle.arctangent_core.proofs.halved_both.Tie as tie
 
 returns : tie.Need-returns
 unfolding halved ofBits

@@ -1,8 +1,8 @@
 -- `halved` meets its contract. Assumes nothing.
 use lib.Ieee.{ofBits}
 use Rattle.elementary.specs.Arctangent.{halved}
-use Rattle.arctangent.proofs.halved.Statement.{statement}
-use Rattle.arctangent.proofs.halved.Tie as tie
+use Rattle.arctangent_core.proofs.halved.Statement.{statement}
+use Rattle.arctangent_core.proofs.halved.Tie as tie
 
 pub halved-spec : {M : Type 1} → statement M
 unfolding halved ofBits

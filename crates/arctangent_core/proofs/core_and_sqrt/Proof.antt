@@ -1,8 +1,8 @@
 -- `core_and_sqrt` meets its contract. Assumes nothing.
 use lib.Ieee.{ofBits}
 use Rattle.elementary.specs.Arctangent.{halved, core}
-use Rattle.arctangent.proofs.core_and_sqrt.Statement.{statement}
-use Rattle.arctangent.proofs.core_and_sqrt.Tie as tie
+use Rattle.arctangent_core.proofs.core_and_sqrt.Statement.{statement}
+use Rattle.arctangent_core.proofs.core_and_sqrt.Tie as tie
 
 returns : tie.Need-returns
 unfolding core halved ofBits

@@ -3,8 +3,8 @@ use mathlib.Core.Path.{refl}
 use lib.Ieee.{ofBits}
 use Rattle.elementary.specs.Constants.{coreFirst, coreRest}
 use Rattle.elementary.specs.Sine.{series}
-use Rattle.arctangent.proofs.core_series.Statement.{statement}
-use Rattle.arctangent.proofs.core_series.Tie as tie
+use Rattle.arctangent_core.proofs.core_series.Statement.{statement}
+use Rattle.arctangent_core.proofs.core_series.Tie as tie
 
 pub core-series-spec : {M : Type 1} → statement M
 unfolding series coreFirst coreRest ofBits
