@@ -14,13 +14,13 @@ use coordinates::conversions::LonLatAnswer;
 use coordinates::conversions::SphericalAnswer;
 use coordinates::lonlat::LonLat;
 use coordinates::spherical::Spherical;
-use nearest::OriginAnswer;
+use nearest_calls::OriginAnswer;
 use set::open::OpenAnswer;
 ghost use mathlib.Core.Path.{_≡_};
 ghost use Rattle.arithmetic.specs.Arith.{ieee};
 ghost use Rattle.coordinates.specs.Conversions.{fromLonLatGiven, toLonLatGiven};
 ghost use Rattle.origin.specs.Origins.{ORIGINS};
-ghost use Rattle.nearest.specs.Nearest.{nearestGiven};
+ghost use Rattle.nearest_calls.specs.Calls.{nearestGiven};
 ghost use Rattle.set.specs.Outcome.{lent, Becomes};
 ghost use Rattle.set.specs.Open.{openOn};
 ghost use Rattle.answer.specs.Given.{status};
@@ -45,7 +45,7 @@ pub extern "C" fn a5_open(frame: &mut [f64], face_store: &mut [f64], sphere_stor
 pub extern "C" fn a5_nearest(theta: f64, phi: f64, id: &mut u8) -> u8
     ensures { λ r. ⌜ Returns (nearestGiven ieee ORIGINS (spherical theta phi)) r (contents id) Calls·id ⌝ }
 {
-    let given = nearest::nearest(Spherical {
+    let given = nearest_calls::nearest(Spherical {
         theta: Radians(theta),
         phi: Radians(phi),
     });

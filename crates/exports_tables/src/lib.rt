@@ -6,11 +6,11 @@ pub mod files;
 use border::rows::rows;
 use coordinates::base::Radians;
 use coordinates::spherical::Spherical;
-use nearest::OriginAnswer;
+use nearest_calls::OriginAnswer;
 use set::open::OpenAnswer;
 ghost use mathlib.Core.Path.{_≡_};
 ghost use Rattle.arithmetic.specs.Arith.{ieee};
-ghost use Rattle.nearest.specs.Nearest.{nearestGiven};
+ghost use Rattle.nearest_calls.specs.Calls.{nearestGiven};
 ghost use Rattle.set.specs.Outcome.{lent, Becomes};
 ghost use Rattle.set.specs.Open.{openOn};
 ghost use Rattle.answer.specs.Given.{status};
@@ -51,7 +51,7 @@ pub extern "C" fn a5_nearest_with(table: &[f64], theta: f64, phi: f64, id: &mut 
         theta: Radians(theta),
         phi: Radians(phi),
     };
-    let given = nearest::nearest_with(rows(table), point);
+    let given = nearest_calls::nearest_with(rows(table), point);
     match given {
         OriginAnswer::Answered(nearest) => {
             *id = nearest;

@@ -3,21 +3,11 @@ use Prim.Native.Nat.{ℕ, zero, suc}
 use mathlib.Core.Bool.{true, false}
 use mathlib.Core.List.{List, [], _∷_, map}
 use lib.Ieee.{Float, inf, lt}
-use Rattle.answer.specs.Given.{Given, answered, refused, andThen}
-use Rattle.answer.specs.Answer.{numberOf}
 use Rattle.arithmetic.specs.Arith.{Arith}
 use Rattle.elementary.specs.Sine.{sin}
 use Rattle.coordinates.specs.Constants.{2·0}
-use Rattle.coordinates.specs.Conversions.{checkSpherical}
 use Rattle.coordinates.specs.declared.spherical.Spherical.{Spherical}
 use Rattle.origin.specs.Origins.{originAt}
-use Rattle.origin.specs.Table.{checkTable}
-use Rattle.nearest.specs.declared.OriginAnswer.{OriginAnswer}
-use Rattle.nearest.specs.declared.OriginAnswer.the-variants as origin
-
-abbrev pub givenOrigin : OriginAnswer → Given ℕ
-givenOrigin (origin.Answered id) = answered id
-givenOrigin (origin.Refused n) = refused (numberOf n)
 
 -- The place of the least of some numbers, the first of them where several are equal: they stand from place i on, and the least before them is d, at place b.
 unfoldable pub leastFrom : ℕ → List Float → Float → ℕ → ℕ
@@ -47,7 +37,3 @@ module _ (A : Arith) where
   -- find_nearest_origin
   unfoldable pub nearestOrigin : List Float → Spherical → ℕ
   nearestOrigin table p = least (haversines table p)
-
-  -- the call: Paper 10's checks of the table first, then theta and phi, each for 5 and then 6
-  unfoldable pub nearestGiven : List Float → Spherical → Given ℕ
-  nearestGiven table p = andThen (checkTable A table) (andThen (checkSpherical p) (answered (nearestOrigin table p)))

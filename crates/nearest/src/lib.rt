@@ -1,8 +1,6 @@
-// The origin nearest to a point: of the built-in table, or of another.
-use answer::Check;
-use answer::Refusal;
+// The origin nearest to a point: of the built-in table, or of another. The calls, with their checks,
+// are crate `nearest_calls`.
 use coordinates::spherical::Spherical;
-use origin::table::check_rows;
 use origin::table::origin_in;
 use sine_inside::sin_inside;
 ghost use mathlib.Core.Path.{_≡_};
@@ -14,7 +12,7 @@ ghost use Rattle.elementary.specs.Sine.{outside, sin};
 ghost use Rattle.coordinates.specs.Constants.{2·0};
 ghost use Rattle.origin.specs.Origins.{ORIGINS};
 ghost use Rattle.origin.specs.Table.{numbersSound};
-ghost use Rattle.nearest.specs.Nearest.{givenOrigin, least, haversine, haversines, nearestOrigin, nearestGiven};
+ghost use Rattle.nearest.specs.Nearest.{least, haversine, haversines, nearestOrigin};
 
 // Modified haversine formula of the Rust: it grows with the angle between the two. The sine of the
 // point's phi is handed over, since several axes share it.
@@ -150,37 +148,4 @@ pub fn find_nearest_in(table: &[f64; 84], point: Spherical) -> u8
 {
     let distances = haversines_in(table, point);
     least(&distances)
-}
-
-// What nearest comes to: an origin's id, or the refusal.
-pub enum OriginAnswer {
-    Answered(u8),
-    Refused(Refusal),
-}
-
-// The call with the built-in table, which needs no check: the lowest-numbered origin with the least
-// haversine, or theta's and then phi's 5 or 6.
-pub fn nearest(point: Spherical) -> OriginAnswer
-    ensures { λ r. ⌜ givenOrigin r ≡ nearestGiven ieee ORIGINS point ⌝ }
-{
-    let check = coordinates::conversions::check_spherical(point);
-    if let Check::Refused(n) = check {
-        return OriginAnswer::Refused(n);
-    }
-    OriginAnswer::Answered(find_nearest_origin(point))
-}
-
-// The call with a table: its 21 and 22, and then as nearest.
-pub fn nearest_with(table: [f64; 84], point: Spherical) -> OriginAnswer
-    ensures { λ r. ⌜ givenOrigin r ≡ nearestGiven ieee table point ⌝ }
-{
-    let rows = check_rows(&table);
-    if let Check::Refused(of_table) = rows {
-        return OriginAnswer::Refused(of_table);
-    }
-    let check = coordinates::conversions::check_spherical(point);
-    if let Check::Refused(of_point) = check {
-        return OriginAnswer::Refused(of_point);
-    }
-    OriginAnswer::Answered(find_nearest_in(&table, point))
 }

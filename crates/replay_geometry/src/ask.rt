@@ -1,5 +1,5 @@
 // Nearest and the functions on rotations and triangles, each at a record's arguments.
-use nearest::OriginAnswer;
+use nearest_calls::OriginAnswer;
 use origin::utils::Quat;
 use replay::outcome::Outcome;
 use replay::outcome::one;
@@ -11,7 +11,7 @@ use sine::is_outside;
 
 // The nearest origin's id, or the refusal.
 pub fn nearest(words: &[u8; 96]) -> Outcome {
-    match nearest::nearest(replay_arguments::spherical(words, 0)) {
+    match nearest_calls::nearest(replay_arguments::spherical(words, 0)) {
         OriginAnswer::Answered(id) => whole(id as u64),
         OriginAnswer::Refused(r) => refused(answer::number(r)),
     }

@@ -1,7 +1,7 @@
 // The calls with a table on the buffers that are lent, each at a record's arguments.
 use crate::lent::NEAREST;
-use nearest::OriginAnswer;
-use nearest::nearest_with;
+use nearest_calls::OriginAnswer;
+use nearest_calls::nearest_with;
 use replay::outcome::Outcome;
 use replay::outcome::refused;
 use replay_sets::given::of_face;

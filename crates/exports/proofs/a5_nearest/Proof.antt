@@ -1,7 +1,7 @@
 -- `a5_nearest` meets its contract. Assumes nothing.
 use mathlib.Core.Path.{refl, sym, ap, _∙_}
 use borrow.Author.Needs.{needs}
-use Rattle.nearest.specs.Nearest.{givenOrigin}
+use Rattle.nearest_calls.specs.Calls.{givenOrigin}
 use Rattle.border.proofs.Returns.{returns-answer, returns-refusal}
 use Rattle.exports.proofs.a5_nearest.Statement.{statement}
 use Rattle.exports.proofs.a5_nearest.Tie as tie

@@ -3,10 +3,10 @@ use mathlib.Core.Path.{sym, ap, _∙_}
 use borrow.Author.Needs.{needs}
 use Rattle.answer.specs.Answer.{givenCheck}
 use Rattle.coordinates.proofs.Sizes.{passed-inside}
-use Rattle.nearest.specs.Nearest.{nearestGiven}
+use Rattle.nearest_calls.specs.Calls.{nearestGiven}
 use Rattle.origin.proofs.BuiltInPasses.{built-in-passes}
-use Rattle.nearest.proofs.nearest.Statement.{statement}
-use Rattle.nearest.proofs.nearest.Tie as tie
+use Rattle.nearest_calls.proofs.nearest.Statement.{statement}
+use Rattle.nearest_calls.proofs.nearest.Tie as tie
 
 returns : tie.Need-returns
 unfolding nearestGiven

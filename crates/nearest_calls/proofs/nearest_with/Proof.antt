@@ -4,10 +4,10 @@ use borrow.Author.Needs.{needs}
 use Rattle.answer.specs.Answer.{givenCheck}
 use Rattle.arithmetic.specs.Arith.{ieee}
 use Rattle.coordinates.proofs.Sizes.{passed-inside}
-use Rattle.nearest.specs.Nearest.{nearestGiven}
+use Rattle.nearest_calls.specs.Calls.{nearestGiven}
 use Rattle.origin.proofs.Check.{passed-sound}
-use Rattle.nearest.proofs.nearest_with.Statement.{statement}
-use Rattle.nearest.proofs.nearest_with.Tie as tie
+use Rattle.nearest_calls.proofs.nearest_with.Statement.{statement}
+use Rattle.nearest_calls.proofs.nearest_with.Tie as tie
 
 returns : tie.Need-returns
 unfolding nearestGiven

@@ -1,0 +1,2 @@
+-- The nearest origin as a call. Definitions only.
+pub mod Calls
