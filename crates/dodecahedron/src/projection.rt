@@ -54,7 +54,7 @@ fn frame_constants(frame: &[f64]) -> TriangleConstants
     let a = row(frame, 0);
     let b = row(frame, 32);
     let c = row(frame, 12);
-    equal_area::equal_area::compute_constants(SphericalTriangle { a, b, c })
+    equal_area_forward::compute_constants(SphericalTriangle { a, b, c })
 }
 
 // A position in polar coordinates about an origin's axis, with the origin's own turn taken off.
@@ -94,7 +94,7 @@ pub fn forward_core(
         TakenAnswer::Answered(taken) => {
             let used = taken.used;
             let constants = frame_constants(frame);
-            let answer = equal_area::equal_area::forward(
+            let answer = equal_area_forward::forward(
                 constants,
                 unprojected,
                 used.triangle,

@@ -1,8 +1,8 @@
--- `equal_area::compute_constants` meets its contract. Assumes nothing.
+-- `compute_constants` meets its contract. Assumes nothing.
 use lib.Ieee.{ofBits}
 use Rattle.equal_area.specs.EqualArea.{computeConstants}
-use Rattle.equal_area.proofs.equal_area.compute_constants.Statement.{statement}
-use Rattle.equal_area.proofs.equal_area.compute_constants.Tie as tie
+use Rattle.equal_area_forward.proofs.compute_constants.Statement.{statement}
+use Rattle.equal_area_forward.proofs.compute_constants.Tie as tie
 
 returns : tie.Need-returns
 unfolding computeConstants ofBits

@@ -1,8 +1,8 @@
--- `equal_area::forward` meets its contract. Assumes nothing.
+-- `forward` meets its contract. Assumes nothing.
 use lib.Ieee.{ofBits}
 use Rattle.equal_area.specs.EqualArea.{forward}
-use Rattle.equal_area.proofs.equal_area.forward.Statement.{statement}
-use Rattle.equal_area.proofs.equal_area.forward.Tie as tie
+use Rattle.equal_area_forward.proofs.forward.Statement.{statement}
+use Rattle.equal_area_forward.proofs.forward.Tie as tie
 
 returns : tie.Need-returns
 unfolding forward ofBits

@@ -1,8 +1,8 @@
--- `equal_area::one_over` meets its contract. Assumes nothing.
+-- `one_over` meets its contract. Assumes nothing.
 use lib.Ieee.{ofBits}
 use Rattle.equal_area.specs.EqualArea.{oneOver}
-use Rattle.equal_area.proofs.equal_area.one_over.Statement.{statement}
-use Rattle.equal_area.proofs.equal_area.one_over.Tie as tie
+use Rattle.equal_area_forward.proofs.one_over.Statement.{statement}
+use Rattle.equal_area_forward.proofs.one_over.Tie as tie
 
 returns : tie.Need-returns
 unfolding oneOver ofBits
