@@ -14,7 +14,6 @@ use float_parts::signs::abs;
 use float_parts::signs::max_zero;
 use sine::sin_cos;
 use square_root::root::sqrt;
-use float_parts::signs::abs;
 use transforms::coordinate_transforms::face_to_barycentric;
 use vector::dot;
 use vector::normalize;

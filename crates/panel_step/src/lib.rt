@@ -1,11 +1,4 @@
 // A step of the panel on a set, with the built-in table.
-use panel::registers::Command;
-use panel::registers::asked;
-use panel::registers::check_block;
-use panel::registers::write_interrupt;
-use panel::registers::write_lon_lat;
-use panel::registers::write_place;
-use panel::registers::write_refusal;
 use answer::Check;
 use calls::place;
 use calls::unplace;
@@ -13,6 +6,13 @@ use coordinates::conversions::LonLatAnswer;
 use coordinates::coords::Face;
 use coordinates::lonlat::LonLat;
 use dodecahedron::place::PlaceAnswer;
+use panel::registers::Command;
+use panel::registers::asked;
+use panel::registers::check_block;
+use panel::registers::write_interrupt;
+use panel::registers::write_lon_lat;
+use panel::registers::write_place;
+use panel::registers::write_refusal;
 use set::checks::first_refusal;
 use set::set::check_set;
 ghost use mathlib.Core.Path.{_≡_};

@@ -7,8 +7,6 @@ use float_parts::signs::abs;
 use float_parts::signs::negative;
 use remainder::remainder;
 use sine_inside::cos_inside;
-use float_parts::signs::abs;
-use float_parts::signs::negative;
 ghost use mathlib.Core.Path.{_≡_};
 ghost use Rattle.arithmetic.specs.Arith.{ieee};
 ghost use Rattle.elementary.specs.Whole.{signed};

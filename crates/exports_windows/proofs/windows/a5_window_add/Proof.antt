@@ -52,11 +52,11 @@ use Rattle.lent_window.proofs.add as add
 use Rattle.lent_window.proofs.add.Symbol as add-def
 use Rattle.lent_window.proofs.add.Symbol.{name as #lent-window·add}
 use Rattle.lent_window.proofs.add.Met as add-thm
-use Rattle.exports_tools.specs.Windows.{AddedFor}
-use Rattle.exports_tools.proofs.windows.a5_window_add.Key.{name as #exports-tools·windows·a5-window-add}
-use Rattle.exports_tools.proofs.windows.a5_window_add as f
-use Rattle.exports_tools.proofs.windows.a5_window_add.Statement as stated
-use Rattle.exports_tools.proofs.windows.a5_window_add.Code as code
+use Rattle.exports_windows.specs.Windows.{AddedFor}
+use Rattle.exports_windows.proofs.windows.a5_window_add.Key.{name as #exports-windows·windows·a5-window-add}
+use Rattle.exports_windows.proofs.windows.a5_window_add as f
+use Rattle.exports_windows.proofs.windows.a5_window_add.Statement as stated
+use Rattle.exports_windows.proofs.windows.a5_window_add.Code as code
 
 -- the arguments: the window, the minute, the origin
 abbrev Arg : Type 0

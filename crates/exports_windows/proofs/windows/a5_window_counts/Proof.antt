@@ -41,10 +41,10 @@ use Rattle.window.specs.declared.Window.{Window}
 use Rattle.window.proofs.Window as T
 use Rattle.window.proofs.Window.Laws as T′
 use Rattle.lent_window.proofs.Parts.{Words, wordsVal, WindowIs, counts-are}
-use Rattle.exports_tools.proofs.windows.a5_window_counts.Key.{name as #exports-tools·windows·a5-window-counts}
-use Rattle.exports_tools.proofs.windows.a5_window_counts as f
-use Rattle.exports_tools.proofs.windows.a5_window_counts.Statement as stated
-use Rattle.exports_tools.proofs.windows.a5_window_counts.Code as code
+use Rattle.exports_windows.proofs.windows.a5_window_counts.Key.{name as #exports-windows·windows·a5-window-counts}
+use Rattle.exports_windows.proofs.windows.a5_window_counts as f
+use Rattle.exports_windows.proofs.windows.a5_window_counts.Statement as stated
+use Rattle.exports_windows.proofs.windows.a5_window_counts.Code as code
 
 -- the arguments: the window, and the array for the counts
 abbrev Counts : RattleType

@@ -39,10 +39,10 @@ use Rattle.window.proofs.Window.Laws as T′
 use Rattle.window.proofs.State as S
 use Rattle.window.proofs.State.Laws as S′
 use Rattle.lent_window.proofs.Parts.{state-is}
-use Rattle.exports_tools.proofs.windows.a5_window_kept.Key.{name as #exports-tools·windows·a5-window-kept}
-use Rattle.exports_tools.proofs.windows.a5_window_kept as f
-use Rattle.exports_tools.proofs.windows.a5_window_kept.Statement as stated
-use Rattle.exports_tools.proofs.windows.a5_window_kept.Code as code
+use Rattle.exports_windows.proofs.windows.a5_window_kept.Key.{name as #exports-windows·windows·a5-window-kept}
+use Rattle.exports_windows.proofs.windows.a5_window_kept as f
+use Rattle.exports_windows.proofs.windows.a5_window_kept.Statement as stated
+use Rattle.exports_windows.proofs.windows.a5_window_kept.Code as code
 
 abbrev Arg : Type 0
 Arg = RefT Window × Unit {0}
