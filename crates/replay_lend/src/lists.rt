@@ -1,9 +1,10 @@
-// Positions and results lent to `place_list`. A slice of structs is lent by a walk of the code by hand, so `lend` has no more than that: the
+// Positions and results lent to `place_list` and `place_list_with`. A slice of structs is lent by a walk of the code by hand, so `lend` has no more than that: the
 // arrays come and go by value, and what is made of them is made elsewhere.
 use answer::Check;
 use coordinates::lonlat::LonLat;
 use place_list::PlaceResult;
 use place_list::place_list;
+use table_lists::place_list_with;
 ghost use mathlib.Core.Path.{_≡_};
 ghost use Prim.Native.Nat.{_≤_};
 ghost use Rattle.answer.specs.Answer.{givenCheck};
@@ -48,5 +49,32 @@ pub fn lend(
 {
     let mut filled = results;
     let check = place_list(frame, face, sphere, &positions[..n], &mut filled[..m]);
+    paired(check, filled)
+}
+
+// The same with a table of origins.
+pub fn lend_with(
+    table: [f64; 84],
+    frame: &[f64],
+    face: &mut [f64],
+    sphere: &mut [f64],
+    positions: [LonLat; MOST],
+    n: usize,
+    results: [PlaceResult; MOST],
+    m: usize,
+) -> Listed
+    requires { ⌜ (n ≤ 400) × (m ≤ 400) ⌝ }
+    ensures { λ r. ⌜ left (r .status) (r .results) (lent frame face sphere .exit)
+        ≡ placedFirst ieee table (lent frame face sphere .entry) positions n results m ⌝ }
+{
+    let mut filled = results;
+    let check = place_list_with(
+        table,
+        frame,
+        face,
+        sphere,
+        &positions[..n],
+        &mut filled[..m],
+    );
     paired(check, filled)
 }
