@@ -1,5 +1,5 @@
-// Positions and results lent to `place_list` and `place_list_with`. A slice of structs is lent by a walk of the code by hand, so `lend` has no more than that: the
-// arrays come and go by value, and what is made of them is made elsewhere.
+// Positions and results lent to `place_list` and `place_list_with`. A slice of structs is lent by a walk of the code by hand, so the functions
+// that lend have no more than that: the arrays come and go by value, and what is made of them is made elsewhere.
 use answer::Check;
 use coordinates::lonlat::LonLat;
 use place_list::PlaceResult;
@@ -24,7 +24,7 @@ pub struct Listed {
 }
 
 // A check as its status, with the results.
-fn paired(check: Check, results: [PlaceResult; MOST]) -> Listed
+pub fn paired(check: Check, results: [PlaceResult; MOST]) -> Listed
     ensures { λ r. ⌜ (r .status ≡ status (givenCheck check)) × (r .results ≡ results) ⌝ }
 {
     Listed {

@@ -1,5 +1,5 @@
-// Positions and points lent to `region` and `region_with`. A slice of structs is lent by a walk of the code by hand, so `lend` has no more than that: the
-// arrays come and go by value, and what is made of them is made elsewhere.
+// Positions and points lent to `region` and `region_with`. A slice of structs is lent by a walk of the code by hand, so the functions that lend
+// have no more than that: the arrays come and go by value, and what is made of them is made elsewhere.
 use coordinates::coords::Face;
 use coordinates::lonlat::LonLat;
 use region::region;
@@ -23,7 +23,7 @@ pub struct Outlined {
 }
 
 // An answer with the points.
-fn paired(answer: RegionAnswer, points: [Face; MOST]) -> Outlined
+pub fn paired(answer: RegionAnswer, points: [Face; MOST]) -> Outlined
     ensures { λ r. ⌜ (r .answer ≡ answer) × (r .points ≡ points) ⌝ }
 {
     Outlined { answer, points }

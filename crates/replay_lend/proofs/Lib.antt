@@ -1,0 +1,4 @@
+-- What the walks of this crate share.
+pub mod Lent
+pub mod Results
+pub mod Points
