@@ -1,21 +1,34 @@
-// The calls on a set: a list of positions, and open.
+// The calls on a set: a list of positions, with a table too, and open.
 use crate::arrays::POSITIONS;
 use crate::arrays::RESULTS;
 use crate::arrays::blank;
 use crate::arrays::positions;
 use crate::arrays::put_results;
+use crate::set_up::TABLES_AT;
 use replay::outcome::Outcome;
 use replay::outcome::refused;
 use replay::record::word;
+use replay_lend::lists::Listed;
 use replay_lend::lists::MOST;
 use replay_lend::lists::lend;
+use replay_lend::lists::lend_with;
 use replay_sets::given::of_open;
 use replay_sets::places::NO_SUCH_PLACE;
+use replay_sets::tables::table;
 use set::open::open;
 ghost use Prim.Native.Nat.{_<_};
 
-// The number of open's records; the others are lists.
+// The numbers of the records of open, and of lists with a table; the others are lists without one.
 pub const OPEN: u8 = 2;
+
+const WITH: u8 = 3;
+
+// The status of a call, whose results are left.
+fn told(given: Listed, results: &mut [u64; RESULTS]) -> Outcome {
+    let filled = given.results;
+    put_results(filled, results);
+    refused(given.status)
+}
 
 // A list of so many positions and so many results. Every result holds the same before.
 fn place(
@@ -31,16 +44,34 @@ fn place(
         return refused(NO_SUCH_PLACE);
     }
     let list = positions(numbers);
-    let given = lend(frame, face, sphere, list, n, blank(), m);
-    let status = given.status;
-    let filled = given.results;
-    put_results(filled, results);
-    refused(status)
+    told(lend(frame, face, sphere, list, n, blank(), m), results)
 }
 
-// The call of a record, on the buffers that are lent.
+// The same with a table.
+fn place_with(
+    table: [f64; 84],
+    frame: &[f64],
+    face: &mut [f64],
+    sphere: &mut [f64],
+    numbers: &[f64; POSITIONS],
+    n: usize,
+    m: usize,
+    results: &mut [u64; RESULTS],
+) -> Outcome {
+    if n > MOST || m > MOST {
+        return refused(NO_SUCH_PLACE);
+    }
+    let list = positions(numbers);
+    told(
+        lend_with(table, frame, face, sphere, list, n, blank(), m),
+        results,
+    )
+}
+
+// The call of a record, on the buffers that are lent. A table's number is the record's last argument.
 fn ask(
     number: u8,
+    notes: &[f64],
     frame: &mut [f64],
     face: &mut [f64],
     sphere: &mut [f64],
@@ -53,6 +84,10 @@ fn ask(
     }
     let n = word(words, 0) as usize;
     let m = word(words, 1) as usize;
+    if number == WITH {
+        let rows = table(notes, TABLES_AT, word(words, 5));
+        return place_with(rows, frame, face, sphere, numbers, n, m, results);
+    }
     place(frame, face, sphere, numbers, n, m, results)
 }
 
@@ -69,6 +104,7 @@ fn lengths_at(number: u8) -> usize
 // The call of a record on the first numbers of the three buffers, as many as are lent.
 pub fn call(
     number: u8,
+    notes: &[f64],
     frame: &mut [f64],
     face: &mut [f64],
     sphere: &mut [f64],
@@ -88,6 +124,7 @@ pub fn call(
     }
     ask(
         number,
+        notes,
         &mut frame[..of_frame as usize],
         &mut face[..of_face as usize],
         &mut sphere[..of_sphere as usize],

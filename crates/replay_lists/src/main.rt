@@ -1,5 +1,5 @@
-// Replays the oracle's stored lists of positions (Paper 1): each is placed by one call on a set, and the call's status, every result, the
-// result behind those that are lent and the whole set are compared with the stored ones. oracle/README.md has the records.
+// Replays the oracle's stored lists of positions (Paper 1): each is placed by one call on a set, with a table or without one, and the call's
+// status, every result, the result behind those that are lent and the whole set are compared with the stored ones. oracle/README.md has the records.
 mod arrays;
 mod ask;
 mod set_up;
@@ -21,9 +21,9 @@ use replay_sets::places::SPHERE_STORE;
 
 // The number that the comparisons of the set are counted under, after those of the calls. No record has it. A result is the last that is
 // counted in the report.
-const BUFFERS: u8 = 3;
+const BUFFERS: u8 = 4;
 
-const RESULT: u8 = 4;
+const RESULT: u8 = 5;
 
 fn outcome(
     number: u8,
@@ -42,7 +42,16 @@ fn outcome(
         return done(set_up::record(number, frame, face, sphere, notes, positions, words));
     }
     if set_up::before_call(number, notes) {
-        return ask::call(number, frame, face, sphere, positions, results, words);
+        return ask::call(
+            number,
+            notes,
+            frame,
+            face,
+            sphere,
+            positions,
+            results,
+            words,
+        );
     }
     done(false)
 }
@@ -119,7 +128,7 @@ fn run(names: &[u8], takes: &[u8]) {
 // The records' names and how many arguments each has, by their numbers, from 1.
 fn main() {
     run(
-        b" place_list open buffers result position note fill put keep",
-        b"0530134343",
+        b" place_list open place_list_with buffers result position note fill put keep",
+        b"05360134343",
     );
 }

@@ -16,6 +16,12 @@ mod selftest;
 #[allow(dead_code)]
 #[path = "../../calls/src/set.rs"]
 mod set;
+mod table_parts;
+#[path = "../../table_calls/src/tables.rs"]
+mod tables;
+#[allow(dead_code)]
+#[path = "../../table_calls/src/inputs.rs"]
+mod targets;
 
 use common::generator::Generator;
 use common::list::{self, List};
@@ -23,13 +29,19 @@ use script::Script;
 
 fn answers() -> List {
     let mut g = Generator::new(1);
-    let mut script = Script::new();
+    let mut script = Script::new(tables::tables(&mut Generator::new(10)));
     let s = &mut script;
     parts::opened(s, &mut g);
     parts::kept(s, &mut g);
     parts::refused(s, &mut g);
     parts::foreign(s, &mut g);
     parts::no_frame(s, &mut g);
+    table_parts::opened(s, &mut g);
+    table_parts::not_opening(s, &mut g);
+    table_parts::refused(s, &mut g);
+    table_parts::lengths(s, &mut g);
+    table_parts::foreign(s, &mut g);
+    table_parts::no_frame(s, &mut g);
     script.list
 }
 
