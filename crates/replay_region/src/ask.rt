@@ -1,28 +1,37 @@
-// The calls on a set: a region, and open.
+// The calls on a set: a region, with a table too, and open.
 use crate::arrays::LEFT;
 use crate::arrays::POSITIONS;
 use crate::arrays::blank;
 use crate::arrays::positions;
 use crate::arrays::put_box;
 use crate::arrays::put_points;
+use crate::set_up::TABLES_AT;
 use region_work::region::RegionAnswer;
 use replay::outcome::Outcome;
 use replay::outcome::refused;
 use replay::outcome::whole;
 use replay::record::word;
 use replay_lend::regions::MOST;
+use replay_lend::regions::Outlined;
 use replay_lend::regions::lend;
+use replay_lend::regions::lend_with;
 use replay_sets::given::of_open;
 use replay_sets::places::NO_SUCH_PLACE;
+use replay_sets::tables::table;
 use set::open::open;
 ghost use Prim.Native.Nat.{_<_};
 
-// The number of open's records; the others are regions.
+// The numbers of the records of open, and of regions with a table; the others are regions without one.
 pub const OPEN: u8 = 2;
 
-// The origin of an answer, whose box is left too, or the number of the refusal.
-fn told(given: RegionAnswer, left: &mut [u64; LEFT]) -> Outcome {
-    match given {
+const WITH: u8 = 3;
+
+// The origin of an answer, whose box is left beside the points, or the number of the refusal.
+fn told(given: Outlined, left: &mut [u64; LEFT]) -> Outcome {
+    let filled = given.points;
+    put_points(filled, left);
+    let given_answer = given.answer;
+    match given_answer {
         RegionAnswer::Answered(r) => {
             let bounds = r.bounds;
             put_box(bounds, left);
@@ -46,16 +55,34 @@ fn outline(
         return refused(NO_SUCH_PLACE);
     }
     let list = positions(numbers);
-    let given = lend(frame, face, sphere, list, n, blank(), m);
-    let given_answer = given.answer;
-    let filled = given.points;
-    put_points(filled, left);
-    told(given_answer, left)
+    told(lend(frame, face, sphere, list, n, blank(), m), left)
 }
 
-// The call of a record, on the buffers that are lent.
+// The same with a table.
+fn outline_with(
+    table: [f64; 84],
+    frame: &[f64],
+    face: &mut [f64],
+    sphere: &mut [f64],
+    numbers: &[f64; POSITIONS],
+    n: usize,
+    m: usize,
+    left: &mut [u64; LEFT],
+) -> Outcome {
+    if n > MOST || m > MOST {
+        return refused(NO_SUCH_PLACE);
+    }
+    let list = positions(numbers);
+    told(
+        lend_with(table, frame, face, sphere, list, n, blank(), m),
+        left,
+    )
+}
+
+// The call of a record, on the buffers that are lent. A table's number is the record's last argument.
 fn ask(
     number: u8,
+    notes: &[f64],
     frame: &mut [f64],
     face: &mut [f64],
     sphere: &mut [f64],
@@ -68,6 +95,10 @@ fn ask(
     }
     let n = word(words, 0) as usize;
     let m = word(words, 1) as usize;
+    if number == WITH {
+        let rows = table(notes, TABLES_AT, word(words, 5));
+        return outline_with(rows, frame, face, sphere, numbers, n, m, left);
+    }
     outline(frame, face, sphere, numbers, n, m, left)
 }
 
@@ -84,6 +115,7 @@ fn lengths_at(number: u8) -> usize
 // The call of a record on the first numbers of the three buffers, as many as are lent.
 pub fn call(
     number: u8,
+    notes: &[f64],
     frame: &mut [f64],
     face: &mut [f64],
     sphere: &mut [f64],
@@ -103,6 +135,7 @@ pub fn call(
     }
     ask(
         number,
+        notes,
         &mut frame[..of_frame as usize],
         &mut face[..of_face as usize],
         &mut sphere[..of_sphere as usize],

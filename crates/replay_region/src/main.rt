@@ -1,5 +1,5 @@
-// Replays the oracle's stored regions (Paper 4): each is one call on a set, and the call's status and origin, every point, the point behind
-// those that are lent, the box and the whole set are compared with the stored ones. oracle/README.md has the records.
+// Replays the oracle's stored regions (Paper 4): each is one call on a set, with a table or without one, and the call's status and origin,
+// every point, the point behind those that are lent, the box and the whole set are compared with the stored ones. oracle/README.md has the records.
 mod arrays;
 mod ask;
 mod set_up;
@@ -21,11 +21,11 @@ use replay_sets::places::SPHERE_STORE;
 
 // The number that the comparisons of the set are counted under, after those of the calls. No record has it. Half of a box is the last that
 // is counted in the report.
-const BUFFERS: u8 = 3;
+const BUFFERS: u8 = 4;
 
-const POINT: u8 = 4;
+const POINT: u8 = 5;
 
-const BOX: u8 = 5;
+const BOX: u8 = 6;
 
 fn outcome(
     number: u8,
@@ -47,7 +47,7 @@ fn outcome(
         return done(set_up::record(number, frame, face, sphere, notes, positions, words));
     }
     if set_up::before_call(number, notes) {
-        return ask::call(number, frame, face, sphere, positions, left, words);
+        return ask::call(number, notes, frame, face, sphere, positions, left, words);
     }
     done(false)
 }
@@ -124,7 +124,7 @@ fn run(names: &[u8], takes: &[u8]) {
 // The records' names and how many arguments each has, by their numbers, from 1.
 fn main() {
     run(
-        b" region open buffers point box position note fill put keep",
-        b"05301134343",
+        b" region open region_with buffers point box position note fill put keep",
+        b"053601134343",
     );
 }

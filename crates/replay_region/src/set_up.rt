@@ -10,9 +10,12 @@ use replay_sets::set_up::keep;
 use replay_sets::set_up::note;
 use replay_sets::set_up::opened;
 use replay_sets::set_up::put;
+use replay_sets::tables::TABLES;
 
-// What the set should hold, and then what the Rust has for an opened set with every slot filled.
-pub const NOTES: usize = 2 * DEFINED_AT;
+// What the set should hold, then what the Rust has for an opened set with every slot filled, and then the tables.
+pub const TABLES_AT: usize = 2 * DEFINED_AT;
+
+pub const NOTES: usize = TABLES_AT + TABLES;
 
 // What is noted before a call: what open, which always answers here, should leave.
 pub fn before_call(number: u8, notes: &mut [f64]) -> bool {
@@ -40,10 +43,10 @@ pub fn record(
     words: &[u8; 96],
 ) -> bool {
     match number {
-        6 => position(positions, words),
-        7 => note(notes, words),
-        8 => fill_all(frame, face, sphere, notes, words),
-        9 => put(frame, face, sphere, notes, words),
+        7 => position(positions, words),
+        8 => note(notes, words),
+        9 => fill_all(frame, face, sphere, notes, words),
+        10 => put(frame, face, sphere, notes, words),
         _ => keep(notes, words),
     }
 }

@@ -22,6 +22,12 @@ mod selftest;
 #[allow(dead_code)]
 #[path = "../../calls/src/set.rs"]
 mod set;
+mod table_parts;
+#[path = "../../table_calls/src/tables.rs"]
+mod tables;
+#[allow(dead_code)]
+#[path = "../../table_calls/src/inputs.rs"]
+mod targets;
 
 use common::generator::Generator;
 use common::list::{self, List};
@@ -29,7 +35,7 @@ use outlines::Faces;
 use script::Script;
 
 fn answers() -> List {
-    let mut script = Script::new();
+    let mut script = Script::new(tables::tables(&mut Generator::new(10)));
     let s = &mut script;
     let f = &mut Faces::new(Generator::new(1), &s.defined);
     parts::opened(s, f);
@@ -40,6 +46,14 @@ fn answers() -> List {
     parts::foreign(s, f);
     parts::beyond(s, f);
     parts::no_frame(s, f);
+    let g = &mut f.g;
+    table_parts::opened(s, g);
+    table_parts::not_opening(s, g);
+    table_parts::order(s, g);
+    table_parts::refused(s, g);
+    table_parts::lengths(s, g);
+    table_parts::foreign(s, g);
+    table_parts::no_frame(s, g);
     script.list
 }
 

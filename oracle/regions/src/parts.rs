@@ -9,7 +9,7 @@ use crate::outlines::Faces;
 use crate::regions::Region;
 use crate::script::{Script, MOST};
 
-fn status(given: Result<Region, u8>) -> u8 {
+pub fn status(given: Result<Region, u8>) -> u8 {
     given.err().unwrap_or(0)
 }
 
