@@ -16,6 +16,7 @@ mod selftest;
 #[allow(dead_code)]
 #[path = "../../calls/src/set.rs"]
 mod set;
+mod stage;
 mod table_parts;
 #[path = "../../table_calls/src/tables.rs"]
 mod tables;
@@ -25,11 +26,10 @@ mod targets;
 
 use common::generator::Generator;
 use common::list::{self, List};
-use script::Script;
 
 fn answers() -> List {
     let mut g = Generator::new(1);
-    let mut script = Script::new(tables::tables(&mut Generator::new(10)));
+    let mut script = script::new(tables::tables(&mut Generator::new(10)));
     let s = &mut script;
     parts::opened(s, &mut g);
     parts::kept(s, &mut g);

@@ -22,6 +22,8 @@ mod selftest;
 #[allow(dead_code)]
 #[path = "../../calls/src/set.rs"]
 mod set;
+#[path = "../../lists/src/stage.rs"]
+mod stage;
 mod table_parts;
 #[path = "../../table_calls/src/tables.rs"]
 mod tables;
@@ -32,10 +34,9 @@ mod targets;
 use common::generator::Generator;
 use common::list::{self, List};
 use outlines::Faces;
-use script::Script;
 
 fn answers() -> List {
-    let mut script = Script::new(tables::tables(&mut Generator::new(10)));
+    let mut script = script::new(tables::tables(&mut Generator::new(10)));
     let s = &mut script;
     let f = &mut Faces::new(Generator::new(1), &s.defined);
     parts::opened(s, f);
