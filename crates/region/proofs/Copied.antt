@@ -17,7 +17,7 @@ use lib.Seq.{drop-cons, take-suc, set-at, length-take-le, take-append-seam, take
 use borrow.Author.Tests.{leb-true, leb-false}
 use Rattle.coordinates.specs.declared.lonlat.LonLat.{LonLat}
 use Rattle.coordinates.specs.declared.coords.Face.{Face}
-use Rattle.region.specs.Copies.{writtenOut}
+use Rattle.region.specs.Copies.{CopiedIn, writtenOut}
 
 -- what stands behind the end of a list of positions, and of points
 abbrev pub nowhere : LonLat
@@ -52,7 +52,7 @@ module _ (ps bs : List LonLat) (lb : length bs ≡ 256) where
   n = min (length ps) 256
 
   abbrev Kept : Type 0
-  Kept = take (length ps) (copied nowhere ps bs n) ≡ take 256 ps
+  Kept = CopiedIn ps (copied nowhere ps bs n)
 
   parts : copied nowhere ps bs n ≡ take n ps ++ drop n bs
   parts = copied-is nowhere ps bs n (min-le-left (length ps) 256) (subst (λ (k : ℕ). n ≤ k) (sym lb) (min-le-right (length ps) 256))

@@ -27,7 +27,7 @@ use Rattle.region_work.specs.declared.region.RegionAnswer.{RegionAnswer}
 use Rattle.region_core.specs.declared.work.RegionWork.{RegionWork}
 use Rattle.region_work.specs.Region.{givenRegion, checkPositions, firstFailing, checkOrigins, regionOf, RegionCalled, regionCalled, regionLeft, regionGiven, regionOn}
 use Rattle.region_work.specs.Parts.{Worked, worked, countOf, regionWorked}
-use Rattle.region.specs.Copies.{writtenOut}
+use Rattle.region.specs.Copies.{CopiedIn, writtenOut}
 
 or-right : (t : Bool) → t || true ≡ true
 or-right true = refl
@@ -137,7 +137,7 @@ module _ (table : List Float) (s : Set) (ps : List LonLat) (rs : List Face) wher
 -- xs are the copied positions, w what the work came to, and r, pts and n its parts; p′ is what is written out, and s′ the set that is left
 pub regioned : (table : List Float) (s s′ : Set) (ps : List LonLat) (rs : List Face) (xs : List LonLat) (w : RegionWork) (r : RegionAnswer) (pts : List Face)
     (n : ℕ) (p′ : List Face)
-    → take (length ps) xs ≡ take 256 ps
+    → CopiedIn ps xs
     → worked (givenRegion (w .answer)) (w .count) (take (w .count) (w .points)) s′
     ≡ regionWorked ieee table s (take (length ps) xs) (length ps) (length rs)
     → r ≡ w .answer → pts ≡ w .points → n ≡ w .count → p′ ≡ writtenOut rs pts n

@@ -4,8 +4,7 @@ use coordinates::coords::Face;
 use coordinates::lonlat::LonLat;
 ghost use Prim.Native.Nat.{min};
 ghost use mathlib.Core.Path.{_≡_};
-ghost use lib.ListN.{length, take};
-ghost use Rattle.region.specs.Copies.{writtenOut};
+ghost use Rattle.region.specs.Copies.{CopiedIn, writtenOut};
 
 // The lesser of two numbers.
 fn lesser(a: usize, b: usize) -> usize
@@ -24,7 +23,7 @@ fn blank() -> [LonLat; 256] {
 
 // The positions in an array, the first 256 of them where there are more.
 pub fn copy_in(positions: &[LonLat]) -> [LonLat; 256]
-    ensures { λ r. ⌜ take (length (now (positions .entry))) r ≡ take 256 (now (positions .entry)) ⌝ }
+    ensures { λ r. ⌜ CopiedIn (now (positions .entry)) r ⌝ }
 {
     let n = lesser(positions.len(), 256);
     let mut copied = blank();
