@@ -1,5 +1,6 @@
 -- What a reader may try on the theorem: a refused call leaves the set; open twice is open once; one answered call on a newly opened set
--- fills exactly two slots, or three if it is reflected; place, then show, gives the coordinates defined. Assumes nothing.
+-- fills exactly two slots, or three if it is reflected; place, then show, gives the coordinates defined; and there is always a newly opened
+-- set to compare with. Assumes nothing.
 use mathlib.Core.Path.{_≡_, refl, sym, ap, ap₂, subst, _∙_}
 use mathlib.Core.Bool.{Bool, true, false, not, cond, or-true, or-false, true≢false}
 use mathlib.Core.List.{List, [], _∷_, _++_}
@@ -28,7 +29,8 @@ use Rattle.show.specs.declared.StoreKind.the-variants as kind
 use Rattle.set.specs.Set.{Set, checkSet}
 use Rattle.dodecahedron.specs.Work.{Work, usedOf}
 use Rattle.dodecahedron.specs.Calls.{placeGiven, unplaceGiven}
-use Rattle.histories.specs.Lists.{Standing, standing, Call, places, unplaces, Effect, writes, uses, reads, alone, effect, after, step, run}
+use Rattle.histories.specs.Lists.{Standing, standing, Call, opens, forwards, inverses, places, unplaces, lists, regions, steps, shows, asks}
+use Rattle.histories.specs.Lists.{Effect, writes, uses, reads, alone, effect, tableOpened, after, step, run}
 use Rattle.histories.specs.Since.{facesAt}
 use Rattle.histories.specs.Defined.{sphereDefined}
 use Rattle.histories.specs.EveryList.{opened, left, lastOpen}
@@ -85,6 +87,37 @@ pub open-answers-again : (t : List Float) (b : Set) → openGiven ieee t b ≡ p
 open-answers-again t b e =
     let known = rows-long t b e in
     rw e (open-opened ieee t (fresh t) (rw (fresh-passes t (known .1)) (known .0)) (known .1))
+
+-- ---- the table that calls take after a list is one that some buffers open with: there is a newly opened set to compare with
+
+abbrev pub CanOpen : List Float → Type 0
+CanOpen t = (n : Set) × (openGiven ieee t n ≡ passed)
+
+pub step-opens : (s : Standing) (c : Call) → CanOpen (s .table) → CanOpen (step s c .table)
+step-opens s (opens t) can = by (openGiven ieee t (s .set)) refl
+  where
+    by : (g : Given (Unit {0})) → openGiven ieee t (s .set) ≡ g → CanOpen (tableOpened (s .table) t g)
+    by (answered u) e = (s .set, e)
+    by (refused n) e = can
+step-opens s (forwards p o) can = can
+step-opens s (inverses f o) can = can
+step-opens s (places p) can = can
+step-opens s (unplaces f o) can = can
+step-opens s (lists ps results) can = can
+step-opens s (regions ps points) can = can
+step-opens s (steps b) can = can
+step-opens s (shows kind k) can = can
+step-opens s (asks kind k) can = can
+
+run-opens : (cs : List Call) (s : Standing) → CanOpen (s .table) → CanOpen (run s cs .table)
+run-opens [] s can = can
+run-opens (c ∷ cs) s can = run-opens cs (step s c) (step-opens s c can)
+
+pub opened-opens : (t : List Float) (b : Set) → openGiven ieee t b ≡ passed → CanOpen (opened t b .table)
+opened-opens t b ready = step-opens (standing t b) (opens t) (b, ready)
+
+pub always-opens : (t : List Float) (b : Set) → openGiven ieee t b ≡ passed → (cs : List Call) → CanOpen (left t b cs .table)
+always-opens t b ready cs = run-opens cs (opened t b) (opened-opens t b ready)
 
 -- ---- one answered call on a newly opened set
 

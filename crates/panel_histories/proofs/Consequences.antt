@@ -1,21 +1,22 @@
 -- What follows for a reader who tries the claim: a step after any list of events, the same registers at two moments, and a second step right
 -- after a command. Assumes nothing.
-use mathlib.Core.Path.{_≡_, sym, ap, subst, _∙_}
+use mathlib.Core.Path.{_≡_, sym, ap, ap₂, subst, _∙_}
 use mathlib.Core.List.{List, [], _∷_, _++_}
 use Prim.Native.Nat.{ℕ}
 use lib.Ieee.{Float}
-use lib.ListN.{length, getD, set}
+use lib.ListN.{set}
 use lib.Seq.{set-getD}
 use Rattle.answer.specs.Given.{passed}
 use Rattle.arithmetic.specs.Arith.{ieee}
 use Rattle.set.specs.Set.{Set}
 use Rattle.set.specs.Open.{openGiven}
-use Rattle.panel.specs.Registers.{BLOCK, COMMAND, INTERRUPT, interruptAnew}
+use Rattle.panel.specs.Registers.{INTERRUPT, interruptAnew}
 use Rattle.panel.specs.Step.{stepOn}
 use Rattle.panel.specs.EveryStep.{AfterCommand}
 use Rattle.histories.specs.EveryList.{opened}
-use Rattle.panel_histories.specs.Events.{Event, steps, State, state, stepped, next}
-use Rattle.panel_histories.specs.EveryPanel.{AsNew, Ends, EachEnds}
+use Rattle.histories.proofs.Consequences.{CanOpen, step-opens, opened-opens}
+use Rattle.panel_histories.specs.Events.{Event, host-writes, steps, calls, State, state, stepped, next}
+use Rattle.panel_histories.specs.EveryPanel.{Ends, EachEnds}
 use Rattle.panel_histories.proofs.Theorem.{every-panel}
 
 -- where a list of events ends
@@ -32,25 +33,28 @@ pub after-any-list : (t : List Float) (b : Set) → openGiven ieee t b ≡ passe
     → Ends (runs (state block (opened t b)) es) steps
 after-any-list t b ready block es = last-ends (state block (opened t b)) es (every-panel t b ready block (es ++ steps ∷ []))
 
--- Two sets, whatever their lists were: where the same table is taken and the same registers stand there, a command 1 leaves the same block.
+-- the table that a step takes is one that some buffers open with
+can-open : (d : State) (es : List Event) → CanOpen (d .standing .table) → CanOpen (runs d es .standing .table)
+can-open d [] can = can
+can-open d (host-writes b ∷ es) can = can-open (next d (host-writes b)) es can
+can-open d (steps ∷ es) can = can-open (next d steps) es can
+can-open d (calls c ∷ es) can = can-open (next d (calls c)) es (step-opens (d .standing) c can)
+
+-- Two sets, whatever their lists were: where the same table is taken and the same registers stand there, whatever they hold, a step leaves
+-- the same block. So it is for command 1 and for command 2.
 pub same-registers : (t u : List Float) (b c : Set) (block other : List ℕ) (es fs : List Event) →
     let d = runs (state block (opened t b)) es in
     let e = runs (state other (opened u c)) fs in
-    openGiven ieee t b ≡ passed → openGiven ieee u c ≡ passed → (n : Set) → openGiven ieee (d .standing .table) n ≡ passed →
-    d .standing .table ≡ e .standing .table → d .block ≡ e .block → length (d .block) ≡ BLOCK → getD (d .block) COMMAND 0 ≡ 1 →
-    stepped d .block ≡ stepped e .block
-same-registers t u b c block other es fs ready also n new tables blocks long one =
+    openGiven ieee t b ≡ passed → openGiven ieee u c ≡ passed →
+    d .standing .table ≡ e .standing .table → d .block ≡ e .block → stepped d .block ≡ stepped e .block
+same-registers t u b c block other es fs ready also tables blocks =
     let d = runs (state block (opened t b)) es in
     let e = runs (state other (opened u c)) fs in
-    let here = after-any-list t b ready block es n new .place long one in
-    let Claim : List Float → List ℕ → Type 0 =
-    λ table bytes. (m : Set) → openGiven ieee table m ≡ passed → AsNew table (e .standing .set) (opened table m .set) bytes in
-    let elsewhere = after-any-list u c also other fs in
-    let with-block = subst (Claim (e .standing .table)) (sym blocks) elsewhere in
-    let there = subst (λ (table : List Float). Claim table (d .block)) (sym tables) with-block in
-    let same = sym (there n new .place long one) in
-    let Left : List Float → List ℕ → List ℕ = λ table bytes. stepOn ieee table (e .standing .set) bytes .left .block in
-    here ∙ same ∙ ap (λ (table : List Float). Left table (d .block)) tables ∙ ap (Left (e .standing .table)) blocks
+    let new = can-open (state block (opened t b)) es (opened-opens t b ready) in
+    let here = after-any-list t b ready block es (new .0) (new .1) in
+    let there = after-any-list u c also other fs (new .0) (subst (λ (table : List Float). openGiven ieee table (new .0) ≡ passed) tables (new .1)) in
+    let Left : List Float → List ℕ → List ℕ = λ table bytes. stepOn ieee table (opened table (new .0) .set) bytes .left .block in
+    here .block ∙ ap₂ Left tables blocks ∙ sym (there .block)
 
 -- a block after a command: with command 0 a further step leaves it as it is
 pub idle : {b c : List ℕ} → AfterCommand b c → interruptAnew c ≡ c

@@ -92,6 +92,7 @@ module _ (table : List Float) (n : Set) (ready : openGiven ieee table n ≡ pass
   as-new s b same =
       record {
         answer = same .step b .0 ∙ check-new b;
+        block = same .step b .1;
         place = λ long e. same .step b .1 ∙ left-new b _ long (place-asked b e);
         unplace = λ long e. same .step b .1 ∙ left-new b _ long (unplace-asked b e);
       }

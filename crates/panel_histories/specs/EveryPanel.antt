@@ -20,6 +20,8 @@ use Rattle.panel_histories.specs.Events.{Event, host-writes, steps, call
 pub record AsNew (table : List Float) (s n : Set) (b : List ℕ) : Type 0 where
   -- the step itself is refused with 23 or not at all: no 1, 2, 3, 21 or 22
   pub answer : stepOn ieee table s b .answer ≡ checkBlock b
+  -- whatever the command: what the same step leaves on the newly opened set
+  pub block : stepOn ieee table s b .left .block ≡ stepOn ieee table n b .left .block
   -- command 1
   pub place : length b ≡ BLOCK → getD b COMMAND 0 ≡ 1
       → stepOn ieee table s b .left .block ≡ blockBy placed b (placeOn ieee table n (lonLatIn ieee b INPUTS) .answer)
