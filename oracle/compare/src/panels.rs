@@ -3,14 +3,13 @@
 // it, and all numbers of the set must be the same.
 
 use crate::calls::{Call, Place, Unplace};
-use crate::common::fields::{of_whole, whole};
 use crate::common::refusals::lengths;
 use crate::common::sizes::RIGHT;
 use crate::counts::{Where, PANEL_STEP, PANEL_STEP_WITH};
 use crate::draw::Draw;
 use crate::library::{of_bytes, Buffers, Library};
 use crate::outcome::Outcome;
-use crate::panel_oracle::{step, Answer, Command, BLOCK};
+use crate::panel_oracle::{step, BLOCK};
 use crate::raw;
 use crate::script::Script;
 use crate::set::Set;
@@ -38,10 +37,7 @@ impl Block {
         lent: Result<(), u8>,
         call: impl FnOnce(Call, &[f64]) -> Result<Vec<f64>, u8>,
     ) -> Outcome {
-        let given = step(&mut self.bytes[..self.lent], lent, |command| {
-            let (call_of, x) = asked(command);
-            call(call_of, &x).map(|numbers| answer(call_of, &numbers))
-        });
+        let given = step(&mut self.bytes[..self.lent], lent, call);
         self.outcome(given.err().unwrap_or(0))
     }
 
@@ -89,27 +85,6 @@ impl Block {
             0 => draw.g.whole(0, ROOM as i64 + 1) as usize,
             _ => BLOCK,
         };
-    }
-}
-
-fn asked(command: Command) -> (Call, Vec<f64>) {
-    match command {
-        Command::Place(x) => (Place, x.to_vec()),
-        Command::Unplace(x, origin) => (Unplace, vec![x[0], x[1], whole(origin.into())]),
-    }
-}
-
-// Place's numbers have the origin first.
-fn answer(call: Call, numbers: &[f64]) -> Answer {
-    match call {
-        Place => Answer {
-            origin: Some(of_whole(numbers[0]) as u8),
-            numbers: [numbers[1], numbers[2]],
-        },
-        _ => Answer {
-            origin: None,
-            numbers: [numbers[0], numbers[1]],
-        },
     }
 }
 

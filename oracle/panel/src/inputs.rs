@@ -1,20 +1,36 @@
 // What hosts write, session by session: which bytes, and what.
 
-use crate::generator::Generator;
+use crate::common::generator::Generator;
 
 pub type Writes = Vec<(usize, u8)>;
 
-// A host's writes before a step, and how many bytes of the block are lent to it.
+// What is asked: a step, a step with a table, or that the set is opened with a table. A table is told by its number.
+#[derive(Clone, Copy)]
+pub enum Asked {
+    Step,
+    StepWith(usize),
+    OpenWith(usize),
+}
+
+// A host's writes before it, how many bytes of the block are lent, and which buffers are lent without their last number: bit 0
+// the frame, bit 1 the face store, bit 2 the sphere store.
 pub struct Turn {
+    pub asked: Asked,
     pub writes: Writes,
     pub lent: usize,
+    pub short: u8,
 }
 
 // All bytes there are: those of the block, and two behind it.
 pub const ROOM: usize = 34;
 
-fn turn(writes: Writes) -> Turn {
-    Turn { writes, lent: 32 }
+pub fn turn(writes: Writes) -> Turn {
+    Turn {
+        asked: Asked::Step,
+        writes,
+        lent: 32,
+        short: 0,
+    }
 }
 
 fn input(at: usize, n: i32) -> Writes {
@@ -22,7 +38,7 @@ fn input(at: usize, n: i32) -> Writes {
 }
 
 // A command with its inputs, and nothing else.
-fn asked(command: u8, inputs: [i32; 2]) -> Writes {
+pub fn asked(command: u8, inputs: [i32; 2]) -> Writes {
     [
         vec![(0, command)],
         input(8, inputs[0]),
@@ -31,18 +47,18 @@ fn asked(command: u8, inputs: [i32; 2]) -> Writes {
     .concat()
 }
 
-fn on(origin: u8, inputs: [i32; 2]) -> Writes {
+pub fn on(origin: u8, inputs: [i32; 2]) -> Writes {
     [vec![(4, origin)], asked(2, inputs)].concat()
 }
 
-fn any_byte(g: &mut Generator) -> u8 {
+pub fn any_byte(g: &mut Generator) -> u8 {
     g.bits() as u8
 }
 
 // Inputs that place and unplace answer: London, and a point of a face; and refused ones.
-const POSITION: [i32; 2] = [-1278000, 515074000];
-const POINT: [i32; 2] = [123456789, -234567890];
-const NO_LATITUDE: [i32; 2] = [0, 900000001];
+pub const POSITION: [i32; 2] = [-1278000, 515074000];
+pub const POINT: [i32; 2] = [123456789, -234567890];
+pub const NO_LATITUDE: [i32; 2] = [0, 900000001];
 
 // Every command value, on a block that the host has filled, the bytes behind it too.
 fn commands(g: &mut Generator) -> Vec<Turn> {
@@ -107,13 +123,16 @@ fn limits() -> Vec<Turn> {
 }
 
 // Unplaces that give 19: points too far off the face.
+pub const OUTSIDE: [(u8, [i32; 2]); 3] = [
+    (7, [1235847662, -125812592]),
+    (4, [1235734985, 265693756]),
+    (3, [-1134423674, 541134446]),
+];
+
 fn outside() -> Vec<Turn> {
-    let points = [
-        (7, [1235847662, -125812592]),
-        (4, [1235734985, 265693756]),
-        (3, [-1134423674, 541134446]),
-    ];
-    points.map(|(origin, point)| turn(on(origin, point))).into()
+    OUTSIDE
+        .map(|(origin, point)| turn(on(origin, point)))
+        .into()
 }
 
 // Answered and refused in turn, single bytes written in between: the command alone is set again, so that a step takes the inputs
@@ -135,8 +154,8 @@ fn lengths() -> Vec<Turn> {
     let mut turns = Vec::new();
     for lent in [0, 1, 4, 31, 33, 34] {
         for command in [0, 1, 2, 3] {
-            let writes = asked(command, POSITION);
-            turns.push(Turn { writes, lent });
+            let asked = turn(asked(command, POSITION));
+            turns.push(Turn { lent, ..asked });
         }
     }
     turns

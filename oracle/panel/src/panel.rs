@@ -1,19 +1,48 @@
 // Document 02's Paper 11, under its words. Place and unplace are the caller's: those on a set, or those of a projection which the
 // Rust keeps.
 
+use crate::calls::{Call, Place, Unplace};
+use crate::common::fields::{of_whole, whole};
+
 // "32 bytes of registers".
 pub const BLOCK: usize = 32;
 
 // A command with its inputs, in degrees or on a face.
-pub enum Command {
+enum Command {
     Place([f64; 2]),
     Unplace([f64; 2], u8),
 }
 
+impl Command {
+    // As a call of `calls/`, with its arguments.
+    fn asked(&self) -> (Call, Vec<f64>) {
+        match *self {
+            Command::Place(x) => (Place, x.to_vec()),
+            Command::Unplace(x, origin) => (Unplace, vec![x[0], x[1], whole(origin.into())]),
+        }
+    }
+}
+
 // What a command is answered with: an origin where it is place, and two numbers.
-pub struct Answer {
-    pub origin: Option<u8>,
-    pub numbers: [f64; 2],
+struct Answer {
+    origin: Option<u8>,
+    numbers: [f64; 2],
+}
+
+impl Answer {
+    // Of such a call's numbers: place's have the origin first.
+    fn of(call: Call, numbers: &[f64]) -> Answer {
+        match call {
+            Place => Answer {
+                origin: Some(of_whole(numbers[0]) as u8),
+                numbers: [numbers[1], numbers[2]],
+            },
+            _ => Answer {
+                origin: None,
+                numbers: [numbers[0], numbers[1]],
+            },
+        }
+    }
 }
 
 // "Byte 3 is the interrupt line: 1 if status and mask share a set bit among bits 0 and 1, else 0."
@@ -35,20 +64,24 @@ fn inputs(block: &[u8], unit: f64) -> [f64; 2] {
 pub fn step(
     block: &mut [u8],
     lent: Result<(), u8>,
-    call: impl FnOnce(Command) -> Result<Answer, u8>,
+    call: impl FnOnce(Call, &[f64]) -> Result<Vec<f64>, u8>,
 ) -> Result<(), u8> {
     if block.len() != BLOCK {
         return Err(23);
     }
     lent?;
+    let carried_out = |command: Command| {
+        let (asked, x) = command.asked();
+        call(asked, &x).map(|numbers| Answer::of(asked, &numbers))
+    };
     let given = match block[0] {
         // "With command 0 only the interrupt byte is worked out anew."
         0 => {
             block[3] = interrupt(block[1], block[2]);
             return Ok(());
         }
-        1 => call(Command::Place(inputs(block, 10000000.0))),
-        2 => call(Command::Unplace(inputs(block, 1000000000.0), block[4])),
+        1 => carried_out(Command::Place(inputs(block, 10000000.0))),
+        2 => carried_out(Command::Unplace(inputs(block, 1000000000.0), block[4])),
         // "Another command value is refused with 12."
         _ => Err(12),
     };

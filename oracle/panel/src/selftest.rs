@@ -1,6 +1,8 @@
 // What Paper 11 says, tried on the oracle.
 
-use crate::{new_projection, step, Block, ROOM};
+use crate::common::generator::Generator;
+use crate::common::sizes::RIGHT;
+use crate::{new_projection, step, step_with, tables, Block, Set, ROOM};
 
 // A panel with a mask, a command, an origin and inputs, and 7 in every other byte.
 fn asked(mask: u8, command: u8, origin: u8, inputs: [i32; 2]) -> Block {
@@ -23,7 +25,39 @@ fn carried_out(block: &Block) -> Block {
     after
 }
 
+// With the built-in rows as a table a step leaves the same. "A set of wrong length or a bad table refuses the step itself, whatever
+// the command, with 1, 2, 3, 21 or 22, block unchanged", after 23.
+fn with_a_table() {
+    let tables = tables::tables(&mut Generator::new(10));
+    let mut set = Set::opened();
+    for block in [asked(1, 1, 200, LONDON), asked(2, 2, 4, [0, 900000001])] {
+        let mut after = block;
+        let own = &tables.all[0];
+        assert_eq!(step_with(own, &mut set, RIGHT, &mut after[..32]), 0);
+        assert_eq!(after, carried_out(&block));
+    }
+    let [a, b, c] = RIGHT;
+    let unit = &tables.all[tables.pass + 9];
+    let range = &tables.all[tables.pass];
+    for (table, lent, length, number) in [
+        (range, [a - 1, b - 1, c - 1], 31, 23),
+        (range, [a - 1, b - 1, c - 1], 32, 1),
+        (range, [a, b - 1, c - 1], 32, 2),
+        (range, [a, b, c - 1], 32, 3),
+        (range, RIGHT, 32, 21),
+        (unit, RIGHT, 32, 22),
+    ] {
+        for command in [0, 1, 2, 3] {
+            let block = asked(1, command, 0, LONDON);
+            let mut after = block;
+            let status = step_with(table, &mut set, lent, &mut after[..length]);
+            assert_eq!((status, after), (number, block));
+        }
+    }
+}
+
 pub fn run() {
+    with_a_table();
     // place, and unplace of its answer: the position comes back to within a unit
     let after = carried_out(&asked(1, 1, 200, LONDON));
     assert_eq!(after[..2], [0, 1]);

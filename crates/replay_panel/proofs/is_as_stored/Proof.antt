@@ -6,10 +6,10 @@ use Rattle.replay_panel.proofs.is_as_stored.Statement.{statement}
 use Rattle.replay_panel.proofs.is_as_stored.Tie as tie
 
 abbrev Inv-loop : tie.InvT-loop
-Inv-loop bytes i₀ i = i ≤ 36
+Inv-loop bytes i₀ i = i ≤ 39
 
 abbrev μ-loop : tie.MeasureT-loop
-μ-loop bytes i₀ i = 36 - i
+μ-loop bytes i₀ i = 39 - i
 
 pub is-as-stored-spec : {M : Type 1} → statement M
 is-as-stored-spec =
