@@ -3,10 +3,10 @@
 use Prim.Native.Nat.{ℕ, _≤_}
 use mathlib.Core.Path.{_≡_, sym, ap, subst, _∙_}
 use mathlib.Core.List.{List}
+use lib.Ieee.{Float}
 use lib.ListN.{length, take}
 use lib.Seq.{length-take-le}
 use Rattle.arithmetic.specs.Arith.{ieee}
-use Rattle.origin.specs.Origins.{ORIGINS}
 use Rattle.coordinates.specs.declared.coords.Face.{Face}
 use Rattle.coordinates.specs.declared.lonlat.LonLat.{LonLat}
 use Rattle.set.specs.Set.{Set}
@@ -26,19 +26,21 @@ first : {X : Type 0} {long m k : ℕ} (xs : List X) → length xs ≡ long → m
 first {X} {long} {m} {k} xs length-is within room-is =
     length-take-le m xs (subst (λ (n : ℕ). m ≤ n) (sym length-is) within) ∙ room-is
 
-module _ (s : Set) (near : Nearby) {ps : List LonLat} {n m : ℕ} (count-is : n ≡ near .count) (room-is : m ≡ near .room) where
+module _ (table : List Float) (s : Set) (near : Nearby) {ps : List LonLat} {n m : ℕ} (count-is : n ≡ near .count) (room-is : m ≡ near .room) where
   pub listed-left : (rs : List PlaceResult) → ps ≡ nearby ieee 400 (near .start) (near .stride) → length rs ≡ 400 → m ≤ 400
-      → placedFirst ieee ORIGINS s ps n rs m .set
-      ≡ leaves s (lists (take (near .count) (nearby ieee 400 (near .start) (near .stride))) (near .room))
+      → placedFirst ieee table s ps n rs m .set
+      ≡ leaves table s (lists (take (near .count) (nearby ieee 400 (near .start) (near .stride))) (near .room))
   listed-left rs are length-is within =
-      list-left ORIGINS s (take n ps) (take m rs)
-      ∙ ap (λ (qs : List LonLat). leaves s (lists qs (length (take m rs)))) (taken count-is are)
-      ∙ ap (λ (k : ℕ). leaves s (lists (take (near .count) (nearby ieee 400 (near .start) (near .stride))) k)) (first rs length-is within room-is)
+      list-left table s (take n ps) (take m rs)
+      ∙ ap (λ (qs : List LonLat). leaves table s (lists qs (length (take m rs)))) (taken count-is are)
+      ∙ ap (λ (k : ℕ). leaves table s (lists (take (near .count) (nearby ieee 400 (near .start) (near .stride))) k))
+      (first rs length-is within room-is)
 
   pub outlined-left : (points : List Face) → ps ≡ nearby ieee 300 (near .start) (near .stride) → length points ≡ 300 → m ≤ 300
-      → regionFirst ieee ORIGINS s ps n points m .set
-      ≡ leaves s (regions (take (near .count) (nearby ieee 300 (near .start) (near .stride))) (near .room))
+      → regionFirst ieee table s ps n points m .set
+      ≡ leaves table s (regions (take (near .count) (nearby ieee 300 (near .start) (near .stride))) (near .room))
   outlined-left points are length-is within =
-      region-left ORIGINS s (take n ps) (take m points)
-      ∙ ap (λ (qs : List LonLat). leaves s (regions qs (length (take m points)))) (taken count-is are)
-      ∙ ap (λ (k : ℕ). leaves s (regions (take (near .count) (nearby ieee 300 (near .start) (near .stride))) k)) (first points length-is within room-is)
+      region-left table s (take n ps) (take m points)
+      ∙ ap (λ (qs : List LonLat). leaves table s (regions qs (length (take m points)))) (taken count-is are)
+      ∙ ap (λ (k : ℕ). leaves table s (regions (take (near .count) (nearby ieee 300 (near .start) (near .stride))) k))
+      (first points length-is within room-is)

@@ -1,7 +1,8 @@
--- The set that a call of crate `histories` leaves, with the built-in table. Definitions only.
-use Rattle.origin.specs.Origins.{ORIGINS}
+-- The set that a call of crate `histories` leaves, with a table. Definitions only.
+use mathlib.Core.List.{List}
+use lib.Ieee.{Float}
 use Rattle.set.specs.Set.{Set}
 use Rattle.histories.specs.Lists.{Call, standing, step}
 
-abbrev pub leaves : Set → Call → Set
-leaves s c = step (standing ORIGINS s) c .set
+abbrev pub leaves : List Float → Set → Call → Set
+leaves table s c = step (standing table s) c .set

@@ -1,8 +1,8 @@
-// A call that is lent the set, with its other arguments, and what it comes to on a set.
-mod lists;
+// A call that is lent the set, with its other arguments, and what it comes to on a set with the built-in table.
+pub mod lists;
 mod mixed;
 pub mod nearby;
-mod regions;
+pub mod regions;
 pub mod steps;
 
 use crate::lists::listed;
@@ -31,9 +31,11 @@ use show::SlotState;
 use show::StoreKind;
 use show::show;
 use show::slot_state;
+ghost use Rattle.origin.specs.Origins.{ORIGINS};
 ghost use Rattle.set.specs.Outcome.{lent, Becomes};
 ghost use Rattle.replay_perform.specs.Performed.{performed};
 
+// A call, without the table that it takes.
 pub enum Call {
     Open,
     Forward(Spherical, u8),
@@ -58,35 +60,40 @@ pub fn whole(count: u8, first: u64, second: u64, third: u64) -> Outcome {
     }
 }
 
-fn of_open(answer: OpenAnswer) -> Outcome {
+// Opened, or the refusal.
+pub fn of_open(answer: OpenAnswer) -> Outcome {
     match answer {
         OpenAnswer::Opened => refused(0),
         OpenAnswer::Refused(n) => refused(answer::number(n)),
     }
 }
 
-fn of_face(answer: FaceAnswer) -> Outcome {
+// Both numbers of a face point.
+pub fn of_face(answer: FaceAnswer) -> Outcome {
     match answer {
         FaceAnswer::Answered(p) => two(p.0.x, p.0.y),
         FaceAnswer::Refused(n) => refused(answer::number(n)),
     }
 }
 
-fn of_spherical(answer: SphericalAnswer) -> Outcome {
+// Theta and phi.
+pub fn of_spherical(answer: SphericalAnswer) -> Outcome {
     match answer {
         SphericalAnswer::Answered(p) => two(p.theta.0, p.phi.0),
         SphericalAnswer::Refused(n) => refused(answer::number(n)),
     }
 }
 
-fn of_place(answer: PlaceAnswer) -> Outcome {
+// The origin, and both numbers of the face point.
+pub fn of_place(answer: PlaceAnswer) -> Outcome {
     match answer {
         PlaceAnswer::Answered(p) => whole(3, p.origin as u64, bits(p.face.0.x), bits(p.face.0.y)),
         PlaceAnswer::Refused(n) => refused(answer::number(n)),
     }
 }
 
-fn of_lon_lat(answer: LonLatAnswer) -> Outcome {
+// Longitude and latitude.
+pub fn of_lon_lat(answer: LonLatAnswer) -> Outcome {
     match answer {
         LonLatAnswer::Answered(p) => two(p.longitude.0, p.latitude.0),
         LonLatAnswer::Refused(n) => refused(answer::number(n)),
@@ -94,7 +101,7 @@ fn of_lon_lat(answer: LonLatAnswer) -> Outcome {
 }
 
 // How many coordinates a part has, and the first and the last of them.
-fn of_part(part: &[f64]) -> Outcome {
+pub fn of_part(part: &[f64]) -> Outcome {
     let n = part.len();
     if n == 0 {
         return whole(1, 0, 0, 0);
@@ -103,7 +110,7 @@ fn of_part(part: &[f64]) -> Outcome {
 }
 
 // 1 for filled, 0 for empty.
-fn of_state(state: SlotState) -> Outcome {
+pub fn of_state(state: SlotState) -> Outcome {
     match state {
         SlotState::Filled => whole(1, 1, 0, 0),
         SlotState::Empty => whole(1, 0, 0, 0),
@@ -118,7 +125,7 @@ pub fn perform(
     sphere_store: &mut [f64],
     call: Call,
 ) -> Outcome
-    ensures { λ _. ⌜ Becomes (lent frame «face_store» «sphere_store») (λ s. performed s call) ⌝ }
+    ensures { λ _. ⌜ Becomes (lent frame «face_store» «sphere_store») (λ s. performed ORIGINS s call) ⌝ }
 {
     match call {
         Call::Open => of_open(open(frame, face_store, sphere_store)),

@@ -12,13 +12,14 @@ use replay_lend::lists::lend;
 ghost use mathlib.Core.Path.{_≡_};
 ghost use lib.ListN.{length, take};
 ghost use Rattle.arithmetic.specs.Arith.{ieee};
+ghost use Rattle.origin.specs.Origins.{ORIGINS};
 ghost use Rattle.set.specs.Outcome.{lent, Becomes};
 ghost use Rattle.histories.specs.Lists.{lists};
 ghost use Rattle.replay_perform.specs.Made.{nearby};
 ghost use Rattle.replay_perform.specs.Left.{leaves};
 
 // What a result holds before a call.
-fn blank() -> [PlaceResult; MOST]
+pub fn blank() -> [PlaceResult; MOST]
     ensures { λ r. ⌜ length r ≡ 400 ⌝ }
 {
     [PlaceResult {
@@ -44,7 +45,8 @@ fn mixed_results(results: [PlaceResult; MOST]) -> u64 {
     mix
 }
 
-fn of_listed(given: Listed) -> Outcome {
+// The status, and all results.
+pub fn of_listed(given: Listed) -> Outcome {
     let status = given.status;
     let results = given.results;
     Outcome {
@@ -64,7 +66,7 @@ pub fn listed(
     near: Nearby,
 ) -> Outcome
     ensures { λ _. ⌜ Becomes (lent frame «face_store» «sphere_store»)
-        (λ s. leaves s (lists (take (near .count) (nearby ieee 400 (near .start) (near .stride))) (near .room))) ⌝ }
+        (λ s. leaves ORIGINS s (lists (take (near .count) (nearby ieee 400 (near .start) (near .stride))) (near .room))) ⌝ }
 {
     let start = near.start;
     let stride = near.stride;

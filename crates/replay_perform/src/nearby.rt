@@ -16,7 +16,8 @@ pub struct Nearby {
     pub room: u8,
 }
 
-pub(crate) fn wide(x: u8) -> usize
+// A byte as a length.
+pub fn wide(x: u8) -> usize
     ensures { λ r. ⌜ r ≡ x ⌝ }
     ensures { λ r. ⌜ r < 256 ⌝ }
 {
@@ -44,7 +45,7 @@ fn corner(p: LonLat, q: LonLat) -> LonLat
 }
 
 // The positions of a list: eight about the first, and the first again for all behind them.
-pub(crate) fn for_list(p: LonLat, by: LonLat) -> [LonLat; lists::MOST]
+pub fn for_list(p: LonLat, by: LonLat) -> [LonLat; lists::MOST]
     ensures { λ r. ⌜ r ≡ nearby ieee 400 p by ⌝ }
 {
     let q = further(p, by);
@@ -61,7 +62,7 @@ pub(crate) fn for_list(p: LonLat, by: LonLat) -> [LonLat; lists::MOST]
 }
 
 // The same of a region.
-pub(crate) fn for_region(p: LonLat, by: LonLat) -> [LonLat; regions::MOST]
+pub fn for_region(p: LonLat, by: LonLat) -> [LonLat; regions::MOST]
     ensures { λ r. ⌜ r ≡ nearby ieee 300 p by ⌝ }
 {
     let q = further(p, by);

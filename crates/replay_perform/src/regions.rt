@@ -15,13 +15,14 @@ use replay_lend::regions::lend;
 ghost use mathlib.Core.Path.{_≡_};
 ghost use lib.ListN.{length, take};
 ghost use Rattle.arithmetic.specs.Arith.{ieee};
+ghost use Rattle.origin.specs.Origins.{ORIGINS};
 ghost use Rattle.set.specs.Outcome.{lent, Becomes};
 ghost use Rattle.histories.specs.Lists.{regions};
 ghost use Rattle.replay_perform.specs.Made.{nearby};
 ghost use Rattle.replay_perform.specs.Left.{leaves};
 
 // What a point holds before a call.
-fn blank() -> [Face; MOST]
+pub fn blank() -> [Face; MOST]
     ensures { λ r. ⌜ length r ≡ 300 ⌝ }
 {
     [Face(Vec2 { x: 0.5, y: -0.5 }); MOST]
@@ -47,7 +48,8 @@ fn mixed_box(bounds: CaptionBox) -> u64 {
     mixed(mixed(x, y), empty)
 }
 
-fn of_outlined(given: Outlined) -> Outcome {
+// The answer, and all points.
+pub fn of_outlined(given: Outlined) -> Outcome {
     let answer = given.answer;
     let points = given.points;
     let mix = mixed_points(points);
@@ -80,7 +82,7 @@ pub fn outlined(
     near: Nearby,
 ) -> Outcome
     ensures { λ _. ⌜ Becomes (lent frame «face_store» «sphere_store»)
-        (λ s. leaves s (regions (take (near .count) (nearby ieee 300 (near .start) (near .stride))) (near .room))) ⌝ }
+        (λ s. leaves ORIGINS s (regions (take (near .count) (nearby ieee 300 (near .start) (near .stride))) (near .room))) ⌝ }
 {
     let start = near.start;
     let stride = near.stride;

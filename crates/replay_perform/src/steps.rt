@@ -4,6 +4,7 @@ use panel_step::step;
 use replay::outcome::Outcome;
 ghost use mathlib.Core.Path.{_≡_};
 ghost use Prim.Native.Nat.{_≤_};
+ghost use Rattle.origin.specs.Origins.{ORIGINS};
 ghost use Rattle.set.specs.Outcome.{lent, Becomes};
 ghost use Rattle.histories.specs.Lists.{steps};
 ghost use Rattle.replay_perform.specs.Made.{blockOf};
@@ -21,7 +22,7 @@ pub struct Registers {
 }
 
 // The block, the inputs' highest bytes first.
-fn block(r: Registers) -> [u8; 32]
+pub fn block(r: Registers) -> [u8; 32]
     ensures { λ b. ⌜ b ≡ blockOf r ⌝ }
 {
     let mut bytes = [r.others; 32];
@@ -59,7 +60,7 @@ fn eight(block: &[u8; 32], at: usize) -> u64
 }
 
 // All bytes of a block: both results by themselves, and the others mixed.
-fn of_block(status: u8, block: &[u8; 32]) -> Outcome {
+pub fn of_block(status: u8, block: &[u8; 32]) -> Outcome {
     Outcome {
         status: status,
         count: 3,
@@ -76,7 +77,7 @@ pub fn stepped(
     sphere_store: &mut [f64],
     registers: Registers,
 ) -> Outcome
-    ensures { λ _. ⌜ Becomes (lent frame «face_store» «sphere_store») (λ s. leaves s (steps (blockOf registers))) ⌝ }
+    ensures { λ _. ⌜ Becomes (lent frame «face_store» «sphere_store») (λ s. leaves ORIGINS s (steps (blockOf registers))) ⌝ }
 {
     let mut bytes = block(registers);
     let check = step(frame, face_store, sphere_store, &mut bytes);

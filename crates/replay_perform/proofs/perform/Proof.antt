@@ -24,7 +24,7 @@ returns c =
     let entry = at-buffers .before in
     let a = entry .args in
     let s = setOf (a .frame .now) (a .face-store .now) (a .sphere-store .now) in
-    at-open .«open» .ensures .left ∙ ap (λ (k : Call). performed s k) (sym (at-enum-told .enum-told .given .1))
+    at-open .«open» .ensures .left ∙ ap (λ (k : Call). performed ORIGINS s k) (sym (at-enum-told .enum-told .given .1))
 
 returns-2 : tie.Need-returns-2
 returns-2 c =
@@ -38,7 +38,7 @@ returns-2 c =
     let a = entry .args in
     let s = setOf (a .frame .now) (a .face-store .now) (a .sphere-store .now) in
     let used = usedOf (forwardGiven ieee ORIGINS s (at-call .call .given .0 .0) (at-call .call .given .0 .1 .0)) in
-    at-forward .forward .ensures .left ∙ alone-left s used ∙ ap (λ (k : Call). performed s k) (sym (at-call .call .given .1))
+    at-forward .forward .ensures .left ∙ alone-left s used ∙ ap (λ (k : Call). performed ORIGINS s k) (sym (at-call .call .given .1))
 
 returns-3 : tie.Need-returns-3
 returns-3 c =
@@ -52,7 +52,7 @@ returns-3 c =
     let a = entry .args in
     let s = setOf (a .frame .now) (a .face-store .now) (a .sphere-store .now) in
     let used = usedOf (inverseGiven ieee ORIGINS s (at-call2 .call2 .given .0 .0) (at-call2 .call2 .given .0 .1 .0)) in
-    at-inverse .inverse .ensures .left ∙ alone-left s used ∙ ap (λ (k : Call). performed s k) (sym (at-call2 .call2 .given .1))
+    at-inverse .inverse .ensures .left ∙ alone-left s used ∙ ap (λ (k : Call). performed ORIGINS s k) (sym (at-call2 .call2 .given .1))
 
 returns-4 : tie.Need-returns-4
 returns-4 c =
@@ -66,7 +66,7 @@ returns-4 c =
     let a = entry .args in
     let s = setOf (a .frame .now) (a .face-store .now) (a .sphere-store .now) in
     let used = usedOf (placeGiven ieee ORIGINS s (at-call3 .call3 .given .0 .0)) in
-    at-place .place .ensures .left ∙ alone-left s used ∙ ap (λ (k : Call). performed s k) (sym (at-call3 .call3 .given .1))
+    at-place .place .ensures .left ∙ alone-left s used ∙ ap (λ (k : Call). performed ORIGINS s k) (sym (at-call3 .call3 .given .1))
 
 returns-5 : tie.Need-returns-5
 returns-5 c =
@@ -80,7 +80,7 @@ returns-5 c =
     let a = entry .args in
     let s = setOf (a .frame .now) (a .face-store .now) (a .sphere-store .now) in
     let used = usedOf (unplaceGiven ieee ORIGINS s (at-call4 .call4 .given .0 .0) (at-call4 .call4 .given .0 .1 .0)) in
-    at-unplace .unplace .ensures .left ∙ alone-left s used ∙ ap (λ (k : Call). performed s k) (sym (at-call4 .call4 .given .1))
+    at-unplace .unplace .ensures .left ∙ alone-left s used ∙ ap (λ (k : Call). performed ORIGINS s k) (sym (at-call4 .call4 .given .1))
 
 returns-6 : tie.Need-returns-6
 returns-6 c =
@@ -93,7 +93,7 @@ returns-6 c =
     let entry = at-buffers .before in
     let a = entry .args in
     let s = setOf (a .frame .now) (a .face-store .now) (a .sphere-store .now) in
-    at-listed .listed .ensures ∙ ap (λ (k : Call). performed s k) (sym (at-call5 .call5 .given .1))
+    at-listed .listed .ensures ∙ ap (λ (k : Call). performed ORIGINS s k) (sym (at-call5 .call5 .given .1))
 
 returns-7 : tie.Need-returns-7
 returns-7 c =
@@ -106,7 +106,7 @@ returns-7 c =
     let entry = at-buffers .before in
     let a = entry .args in
     let s = setOf (a .frame .now) (a .face-store .now) (a .sphere-store .now) in
-    at-outlined .outlined .ensures ∙ ap (λ (k : Call). performed s k) (sym (at-call6 .call6 .given .1))
+    at-outlined .outlined .ensures ∙ ap (λ (k : Call). performed ORIGINS s k) (sym (at-call6 .call6 .given .1))
 
 returns-8 : tie.Need-returns-8
 returns-8 c =
@@ -119,7 +119,7 @@ returns-8 c =
     let entry = at-buffers .before in
     let a = entry .args in
     let s = setOf (a .frame .now) (a .face-store .now) (a .sphere-store .now) in
-    at-stepped .stepped .ensures ∙ ap (λ (k : Call). performed s k) (sym (at-call7 .call7 .given .1))
+    at-stepped .stepped .ensures ∙ ap (λ (k : Call). performed ORIGINS s k) (sym (at-call7 .call7 .given .1))
 
 returns-9 : tie.Need-returns-9
 returns-9 c =
@@ -130,7 +130,7 @@ returns-9 c =
     let entry = at-buffers .before in
     let a = entry .args in
     let s = setOf (a .frame .now) (a .face-store .now) (a .sphere-store .now) in
-    ap (λ (k : Call). performed s k) (sym (at-call8 .call8 .given .1))
+    ap (λ (k : Call). performed ORIGINS s k) (sym (at-call8 .call8 .given .1))
 
 returns-10 : tie.Need-returns-10
 returns-10 c =
@@ -141,7 +141,7 @@ returns-10 c =
     let entry = at-buffers .before in
     let a = entry .args in
     let s = setOf (a .frame .now) (a .face-store .now) (a .sphere-store .now) in
-    ap (λ (k : Call). performed s k) (sym (at-call9 .call9 .given .1))
+    ap (λ (k : Call). performed ORIGINS s k) (sym (at-call9 .call9 .given .1))
 
 pub perform-spec : {M : Type 1} → statement M
 perform-spec =

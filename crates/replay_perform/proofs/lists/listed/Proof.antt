@@ -2,6 +2,7 @@
 use mathlib.Core.Path.{ap, _∙_}
 use native.Mathlib.Omega.{arith}
 use borrow.Author.Needs.{needs}
+use Rattle.origin.specs.Origins.{ORIGINS}
 use Rattle.set.specs.Set.{setOf}
 use Rattle.replay_lend.specs.Lists.{Left}
 use Rattle.replay_perform.proofs.Near.{listed-left}
@@ -23,7 +24,7 @@ returns c =
     let s = setOf (a .frame .now) (a .face-store .now) (a .sphere-store .now) in
     let m = at-wide2 .wide2 in
     ap (λ (l : Left). l .set) (at-lend .lend .ensures)
-    ∙ listed-left s (a .near) (at-wide .wide .ensures .0) (m .ensures .0) (at-blank .blank .result)
+    ∙ listed-left ORIGINS s (a .near) (at-wide .wide .ensures .0) (m .ensures .0) (at-blank .blank .result)
     (at-positions .for-list .ensures) (at-blank .blank .ensures) (omega (arith, m .ensures .1))
 
 pub listed-spec : {M : Type 1} → statement M

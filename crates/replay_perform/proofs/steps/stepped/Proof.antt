@@ -22,7 +22,7 @@ returns c =
     let entry = at-buffers .before in
     let a = entry .args in
     let s = setOf (a .frame .now) (a .face-store .now) (a .sphere-store .now) in
-    let block-is = ap (λ (b : List ℕ). leaves s (steps b)) (at-block .block .ensures) in
+    let block-is = ap (λ (b : List ℕ). leaves ORIGINS s (steps b)) (at-block .block .ensures) in
     at-step .step .ensures .carries .left ∙ step-left ORIGINS s (at-block .block .result) ∙ block-is
 
 pub stepped-spec : {M : Type 1} → statement M
