@@ -12,7 +12,7 @@ use replay_perform::steps::Registers;
 use show::StoreKind;
 
 // Marsaglia's xorshift of 64 bits.
-fn next(seed: &mut u64) -> u64 {
+pub(crate) fn next(seed: &mut u64) -> u64 {
     let a = *seed ^ (*seed << 13);
     let b = a ^ (a >> 7);
     let c = b ^ (b << 17);
@@ -21,7 +21,7 @@ fn next(seed: &mut u64) -> u64 {
 }
 
 // A number from -1.125 to 1.125, so that some lie beyond a range.
-fn around(r: u64) -> f64 {
+pub(crate) fn around(r: u64) -> f64 {
     2.25 * value(0x3ff0_0000_0000_0000 + r / 4096) - 3.375
 }
 

@@ -11,6 +11,20 @@ use set::sizes::FACE_STORE;
 use set::sizes::FRAME;
 use set::sizes::SPHERE_STORE;
 
+// Whether every number of a set is that of a second one.
+pub(crate) fn alike(
+    frame: &[f64; FRAME],
+    face: &[f64; FACE_STORE],
+    sphere: &[f64; SPHERE_STORE],
+    due_frame: &[f64; FRAME],
+    due_face: &[f64; FACE_STORE],
+    due_sphere: &[f64; SPHERE_STORE],
+) -> bool {
+    unlike(frame, due_frame, 0) == 0
+        && unlike(face, due_face, 0) == 0
+        && unlike(sphere, due_sphere, 0) == 0
+}
+
 // One call on the set, compared: what it comes to, and every number of the set after it.
 fn turn(
     call: Call,
@@ -26,9 +40,7 @@ fn turn(
     let given = perform(frame, face, sphere, call);
     let due = expected(call, due_face, due_sphere);
     count_outcome(call, given, due, compared, differ);
-    let as_due = unlike(frame, due_frame, 0) == 0
-        && unlike(face, due_face, 0) == 0
-        && unlike(sphere, due_sphere, 0) == 0;
+    let as_due = alike(frame, face, sphere, due_frame, due_face, due_sphere);
     count(4, as_due, compared, differ);
 }
 
