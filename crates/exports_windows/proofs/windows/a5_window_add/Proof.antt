@@ -198,7 +198,8 @@ meets 𝓤 H A W at-mem run 𝓣 known =
 pub a5-window-add-spec : {M : Type 1} → stated.statement M
 unfolding code.routine tablesOf
 a5-window-add-spec 𝓤 H 𝓜 𝓖 𝓡 =
-    let adds = cited 𝓤 H (Adding 𝓤 H (𝓖 .A) (𝓜 .mem) (𝓡 .run)) 𝓜 𝓡 code.env #lent-window·add add-def.routine code.calls-lent-window·add (add-thm.met 𝓤 H 𝓜 𝓖 𝓡) in
+    let adds = cited 𝓤 H (Adding 𝓤 H (𝓖 .A) (𝓜 .mem) (𝓡 .run)) 𝓜 𝓡 code.env #lent-window·add add-def.routine
+    code.calls-lent-window·add (add-thm.met 𝓤 H 𝓜 𝓖 𝓡) in
     let numbers = cited 𝓤 H (Numbering 𝓤 H (𝓖 .A) (𝓜 .mem) (𝓡 .run)) 𝓜 𝓡 code.env #answer·status number-def.routine
     code.calls-answer·status (number-thm.met 𝓤 H 𝓜 𝓖 𝓡) in
     entered 𝓤 H (tripleOf 𝓤 H (𝓖 .A) f.signature (f.spec 𝓤 H (𝓖 .A) (𝓜 .mem) (𝓡 .run)))
