@@ -1,13 +1,13 @@
--- `registers::done` meets its contract: byte 5, both results, and the end of the command. Assumes nothing.
+-- `done` meets its contract: byte 5, both results, and the end of the command. Assumes nothing.
 use mathlib.Core.Path.{sym, ap, _∙_}
 use mathlib.Core.List.{List}
 use Prim.Native.Nat.{ℕ}
 use native.Mathlib.Omega.{arith}
 use lib.ListN.{length-set}
 use borrow.Author.Needs.{needs}
 use Rattle.panel.specs.Registers.{REFUSAL, SECOND, DONE, ended, withDouble, done}
-use Rattle.panel.proofs.registers.done.Statement.{statement}
-use Rattle.panel.proofs.registers.done.Tie as tie
+use Rattle.panel_registers.proofs.done.Statement.{statement}
+use Rattle.panel_registers.proofs.done.Tie as tie
 
 -- the function's start, and each double when it has been written
 abbrev start : tie.After-write-double → tie.Start

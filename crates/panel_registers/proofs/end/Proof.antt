@@ -1,11 +1,11 @@
--- `registers::end` meets its contract. Assumes nothing.
+-- `end` meets its contract. Assumes nothing.
 use mathlib.Core.Path.{ap}
 use Prim.Native.Nat.{ℕ}
 use lib.ListN.{set}
 use borrow.Author.Needs.{needs}
 use Rattle.panel.specs.Registers.{COMMAND, STATUS, INTERRUPT, ended}
-use Rattle.panel.proofs.registers.end.Statement.{statement}
-use Rattle.panel.proofs.registers.end.Tie as tie
+use Rattle.panel_registers.proofs.end.Statement.{statement}
+use Rattle.panel_registers.proofs.end.Tie as tie
 
 returns : tie.Need-returns
 unfolding ended

@@ -1,8 +1,8 @@
--- `registers::check_block` meets its contract. Assumes nothing.
+-- `check_block` meets its contract. Assumes nothing.
 use borrow.Author.Tests.{eq-eqb, ne-eqb}
 use Rattle.panel.specs.Registers.{checkBlock}
-use Rattle.panel.proofs.registers.check_block.Statement.{statement}
-use Rattle.panel.proofs.registers.check_block.Tie as tie
+use Rattle.panel_registers.proofs.check_block.Statement.{statement}
+use Rattle.panel_registers.proofs.check_block.Tie as tie
 
 returns : tie.Need-returns
 unfolding checkBlock

@@ -1,10 +1,10 @@
--- `registers::asked` meets its contract, by the value of byte 0. Assumes nothing.
+-- `asked` meets its contract, by the value of byte 0. Assumes nothing.
 use mathlib.Core.Path.{refl}
 use borrow.Author.Needs.{needs}
 use borrow.Author.Tests.{eq-eqb, ne-eqb}
 use Rattle.panel.specs.Step.{commandIn}
-use Rattle.panel.proofs.registers.asked.Statement.{statement}
-use Rattle.panel.proofs.registers.asked.Tie as tie
+use Rattle.panel_registers.proofs.asked.Statement.{statement}
+use Rattle.panel_registers.proofs.asked.Tie as tie
 
 returns : tie.Need-returns
 unfolding commandIn

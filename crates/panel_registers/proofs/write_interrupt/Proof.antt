@@ -1,8 +1,8 @@
--- `registers::write_interrupt` meets its contract. Assumes nothing.
+-- `write_interrupt` meets its contract. Assumes nothing.
 use borrow.Author.Needs.{needs}
 use Rattle.panel.specs.Registers.{interruptAnew}
-use Rattle.panel.proofs.registers.write_interrupt.Statement.{statement}
-use Rattle.panel.proofs.registers.write_interrupt.Tie as tie
+use Rattle.panel_registers.proofs.write_interrupt.Statement.{statement}
+use Rattle.panel_registers.proofs.write_interrupt.Tie as tie
 
 returns : tie.Need-returns
 unfolding interruptAnew

@@ -1,8 +1,8 @@
--- `registers::write_lon_lat` meets its contract. Assumes nothing.
+-- `write_lon_lat` meets its contract. Assumes nothing.
 use borrow.Author.Needs.{needs}
 use Rattle.panel.specs.Registers.{unplaced}
-use Rattle.panel.proofs.registers.write_lon_lat.Statement.{statement}
-use Rattle.panel.proofs.registers.write_lon_lat.Tie as tie
+use Rattle.panel_registers.proofs.write_lon_lat.Statement.{statement}
+use Rattle.panel_registers.proofs.write_lon_lat.Tie as tie
 
 returns : tie.Need-returns
 unfolding unplaced

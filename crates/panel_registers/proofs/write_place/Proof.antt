@@ -1,10 +1,10 @@
--- `registers::write_place` meets its contract. Assumes nothing.
+-- `write_place` meets its contract. Assumes nothing.
 use mathlib.Core.Path.{_∙_}
 use lib.ListN.{length-set}
 use borrow.Author.Needs.{needs}
 use Rattle.panel.specs.Registers.{ORIGIN, placed}
-use Rattle.panel.proofs.registers.write_place.Statement.{statement}
-use Rattle.panel.proofs.registers.write_place.Tie as tie
+use Rattle.panel_registers.proofs.write_place.Statement.{statement}
+use Rattle.panel_registers.proofs.write_place.Tie as tie
 
 same-length : tie.Need-same-length
 same-length c =

@@ -1,10 +1,10 @@
--- `registers::write_refusal` meets its contract. Assumes nothing.
+-- `write_refusal` meets its contract. Assumes nothing.
 use mathlib.Core.Path.{_∙_}
 use lib.ListN.{length-set}
 use borrow.Author.Needs.{needs}
 use Rattle.panel.specs.Registers.{REFUSAL, refusedWith}
-use Rattle.panel.proofs.registers.write_refusal.Statement.{statement}
-use Rattle.panel.proofs.registers.write_refusal.Tie as tie
+use Rattle.panel_registers.proofs.write_refusal.Statement.{statement}
+use Rattle.panel_registers.proofs.write_refusal.Tie as tie
 
 same-length : tie.Need-same-length
 same-length c =

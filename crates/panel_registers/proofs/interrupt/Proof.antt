@@ -1,11 +1,11 @@
--- `registers::interrupt` meets its contract. Assumes nothing.
+-- `interrupt` meets its contract. Assumes nothing.
 use mathlib.Core.Path.{_≡_, sym, ap₂, _∙_}
 use mathlib.Core.Bool.{Bool, cond, _||_}
 use Prim.Native.Nat.{ℕ, _/_}
 use borrow.Author.Needs.{needs}
 use Rattle.panel.specs.Registers.{shared, interrupt}
-use Rattle.panel.proofs.registers.interrupt.Statement.{statement}
-use Rattle.panel.proofs.registers.interrupt.Tie as tie
+use Rattle.panel_registers.proofs.interrupt.Statement.{statement}
+use Rattle.panel_registers.proofs.interrupt.Tie as tie
 
 -- the line by what was found of both bits
 line-is : (status mask : ℕ) (p q : Bool) → shared status mask ≡ p → shared (status / 2) (mask / 2) ≡ q → cond (p || q) 1 0 ≡ interrupt status mask

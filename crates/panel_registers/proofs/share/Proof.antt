@@ -1,8 +1,8 @@
--- `registers::share` meets its contract. Assumes nothing.
+-- `share` meets its contract. Assumes nothing.
 use borrow.Author.Tests.{eq-eqb, ne-eqb}
 use Rattle.panel.specs.Registers.{shared}
-use Rattle.panel.proofs.registers.share.Statement.{statement}
-use Rattle.panel.proofs.registers.share.Tie as tie
+use Rattle.panel_registers.proofs.share.Statement.{statement}
+use Rattle.panel_registers.proofs.share.Tie as tie
 
 returns : tie.Need-returns
 unfolding shared
