@@ -1,5 +1,4 @@
-// What forward and inverse work out on a set, with nothing written: the types of it, and the work. Crates calls and table_calls
-// have the calls.
+// The types of what forward and inverse work out on a set, with nothing written, and of place's answer. The work is crate
+// projection_core's, and the calls are those of crates calls and table_calls.
 pub mod place;
-pub mod projection;
 pub mod work;

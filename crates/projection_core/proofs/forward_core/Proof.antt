@@ -1,4 +1,4 @@
--- `projection::forward_core` meets its contract: refused with what the triangles are, or done with them. Assumes nothing.
+-- `forward_core` meets its contract: refused with what the triangles are, or done with them. Assumes nothing.
 use mathlib.Core.Path.{_≡_, sym, ap, _∙_}
 use borrow.Author.Needs.{needs}
 use Rattle.arithmetic.specs.Arith.{ieee}
@@ -6,10 +6,10 @@ use Rattle.coordinates.specs.CoordinateTransforms.{toCartesian}
 use Rattle.set.specs.Outcome.{held}
 use Rattle.set.proofs.Lengths.{call-passed}
 use Rattle.triangles.specs.Taken.{givenTaken, takenFor}
 use Rattle.dodecahedron.specs.Projection.{polarAbout}
 use Rattle.dodecahedron.proofs.Worked.{forward-refused, forward-done}
-use Rattle.dodecahedron.proofs.projection.forward_core.Statement.{statement}
-use Rattle.dodecahedron.proofs.projection.forward_core.Tie as tie
+use Rattle.projection_core.proofs.forward_core.Statement.{statement}
+use Rattle.projection_core.proofs.forward_core.Tie as tie
 
 abbrev start : tie.After-take → tie.Start
 start c =

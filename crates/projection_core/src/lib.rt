@@ -1,9 +1,5 @@
 // Forward and inverse on a set that passes 1 to 4, on the origin that has the number id, without the
 // checks of their numbers. Nothing is written here.
-use crate::work::FaceDone;
-use crate::work::FaceWork;
-use crate::work::SphericalDone;
-use crate::work::SphericalWork;
 use coordinates::base::Radians;
 use coordinates::coords::Cartesian;
 use coordinates::coords::Face;
@@ -11,6 +7,10 @@ use coordinates::coords::SphericalTriangle;
 use coordinates::polar::Polar;
 use coordinates::spherical::Spherical;
 use coordinates::vec3::Vec3;
+use dodecahedron::work::FaceDone;
+use dodecahedron::work::FaceWork;
+use dodecahedron::work::SphericalDone;
+use dodecahedron::work::SphericalWork;
 use equal_area::equal_area::PointAnswer;
 use equal_area::equal_area::TriangleConstants;
 use origin::utils::Origin;

@@ -1,4 +1,4 @@
--- `projection::inverse_core` meets its contract: refused with what the triangles are, with 19, or done. Assumes nothing.
+-- `inverse_core` meets its contract: refused with what the triangles are, with 19, or done. Assumes nothing.
 use mathlib.Core.Path.{_≡_, sym, ap, _∙_}
 use borrow.Author.Needs.{needs}
 use Rattle.arithmetic.specs.Arith.{ieee}
@@ -7,9 +7,9 @@ use Rattle.equal_area.specs.EqualArea.{givenPoint}
 use Rattle.set.specs.Outcome.{held}
 use Rattle.set.proofs.Lengths.{call-passed}
 use Rattle.triangles.specs.Taken.{givenTaken, takenFor}
 use Rattle.dodecahedron.proofs.Worked.{inverse-refused, inverse-outside, inverse-done}
-use Rattle.dodecahedron.proofs.projection.inverse_core.Statement.{statement}
-use Rattle.dodecahedron.proofs.projection.inverse_core.Tie as tie
+use Rattle.projection_core.proofs.inverse_core.Statement.{statement}
+use Rattle.projection_core.proofs.inverse_core.Tie as tie
 
 abbrev start : tie.After-take → tie.Start
 start c =

@@ -1,8 +1,8 @@
--- `projection::polar_about` meets its contract. Assumes nothing.
+-- `polar_about` meets its contract. Assumes nothing.
 use Rattle.coordinates.proofs.Sizes.{spherical-phi, inside-16}
 use Rattle.dodecahedron.specs.Projection.{polarAbout}
-use Rattle.dodecahedron.proofs.projection.polar_about.Statement.{statement}
-use Rattle.dodecahedron.proofs.projection.polar_about.Tie as tie
+use Rattle.projection_core.proofs.polar_about.Statement.{statement}
+use Rattle.projection_core.proofs.polar_about.Tie as tie
 
 forward-requires : tie.Need-forward-requires
 forward-requires c κs = rw (c .to-spherical .ensures) (inside-16 _ (spherical-phi _))

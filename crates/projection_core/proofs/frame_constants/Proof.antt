@@ -1,8 +1,8 @@
--- `projection::frame_constants` meets its contract. Assumes nothing.
+-- `frame_constants` meets its contract. Assumes nothing.
 use borrow.Author.Needs.{needs}
 use Rattle.dodecahedron.specs.Projection.{frameConstants}
-use Rattle.dodecahedron.proofs.projection.frame_constants.Statement.{statement}
-use Rattle.dodecahedron.proofs.projection.frame_constants.Tie as tie
+use Rattle.projection_core.proofs.frame_constants.Statement.{statement}
+use Rattle.projection_core.proofs.frame_constants.Tie as tie
 
 returns : tie.Need-returns
 unfolding frameConstants
