@@ -1,7 +1,3 @@
 -- Laws behind the proofs of the functions.
-pub mod Marked
-pub mod Common
-pub mod Mask
 pub mod Lead
-pub mod Round
 pub mod RootBits

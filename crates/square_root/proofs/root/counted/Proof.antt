@@ -8,8 +8,8 @@ use lib.Ieee.Bits.{ofBits-fits}
 use Rattle.arithmetic.specs.Rounds.{sqrtRounds}
 use Rattle.arithmetic.specs.Sqrt.{sqrt}
 use Rattle.arithmetic.proofs.Rounds.{rounds-elsewhere}
+use Rattle.root_digits.proofs.Round.{rounds-are}
 use Rattle.square_root.proofs.RootBits.{radicand-is, radicand-lo, radicand-hi, radicand-wide}
-use Rattle.square_root.proofs.Round.{rounds-are}
 use Rattle.square_root.proofs.root.counted.Statement.{statement}
 use Rattle.square_root.proofs.root.counted.Tie as tie
 

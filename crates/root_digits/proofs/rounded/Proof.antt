@@ -1,9 +1,9 @@
 -- `rounded` meets its contract. Assumes nothing.
 use Prim.Native.Nat.{ℕ, _*_, _^_, _<_}
 use native.Mathlib.Omega.{arith}
-use Rattle.square_root.proofs.Round.{t-lt, r-most, twice-r-le, root-up, root-down}
-use Rattle.square_root.proofs.root.rounded.Statement.{statement}
-use Rattle.square_root.proofs.root.rounded.Tie as tie
+use Rattle.root_digits.proofs.Round.{t-lt, r-most, twice-r-le, root-up, root-down}
+use Rattle.root_digits.proofs.rounded.Statement.{statement}
+use Rattle.root_digits.proofs.rounded.Tie as tie
 
 abbrev n : tie.Start → ℕ
 n start = start .args .m * 2 ^ 52

@@ -6,11 +6,11 @@ use Prim.Native.Nat.{ℕ, _*_, _^_, _<_}
 use native.Mathlib.Omega.{arith}
 use borrow.Author.Tests.{ltb-true, ltb-false}
 use lib.Bits.{bitAnd}
-use Rattle.square_root.specs.Root.{Marked, Found}
-use Rattle.square_root.proofs.Common.{left-some, right-some}
-use Rattle.square_root.proofs.Round.{none-found, t-lt, y-lt, rounds-lt, marked, next}
-use Rattle.square_root.proofs.root.digits_of_both.Statement.{statement}
-use Rattle.square_root.proofs.root.digits_of_both.Tie as tie
+use Rattle.root_digits.specs.Digits.{Marked, Found}
+use Rattle.root_digits.proofs.Common.{left-some, right-some}
+use Rattle.root_digits.proofs.Round.{none-found, t-lt, y-lt, rounds-lt, marked, next}
+use Rattle.root_digits.proofs.digits_of_both.Statement.{statement}
+use Rattle.root_digits.proofs.digits_of_both.Tie as tie
 
 abbrev Inv-loop : tie.InvT-loop
 Inv-loop m n t₀ y₀ u₀ z₀ r₀ rounds₀ t y u z r rounds = Found (m * 2 ^ 52) t y r rounds × Found (n * 2 ^ 52) u z r rounds

@@ -4,9 +4,9 @@ use mathlib.Core.Bool.{Bool, cond}
 use Prim.Native.Nat.{_+_, _-_, _*_}
 use native.Mathlib.Omega.{arith}
 use borrow.Author.Tests.{le-leb, lt-leb}
-use Rattle.square_root.proofs.Marked.{changed, half-most}
-use Rattle.square_root.proofs.root.following.Statement.{statement}
-use Rattle.square_root.proofs.root.following.Tie as tie
+use Rattle.root_digits.proofs.Marked.{changed, half-most}
+use Rattle.root_digits.proofs.following.Statement.{statement}
+use Rattle.root_digits.proofs.following.Tie as tie
 
 mul-c : tie.Need-mul-c
 mul-c c = let a = c .args in omega (arith, c .pre .0, half-most (a .t) (a .r) (c .pre .1))

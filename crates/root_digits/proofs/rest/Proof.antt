@@ -1,9 +1,9 @@
 -- `rest` meets its contract. Assumes nothing.
 use borrow.Author.Needs.{needs}
 use native.Mathlib.Omega.{arith}
-use Rattle.square_root.proofs.Mask.{added-back}
-use Rattle.square_root.proofs.root.rest.Statement.{statement}
-use Rattle.square_root.proofs.root.rest.Tie as tie
+use Rattle.root_digits.proofs.Mask.{added-back}
+use Rattle.root_digits.proofs.rest.Statement.{statement}
+use Rattle.root_digits.proofs.rest.Tie as tie
 
 returns : tie.Need-returns
 returns c =

@@ -18,7 +18,7 @@ use Rattle.arithmetic.proofs.Powers.{size-is}
 use Rattle.arithmetic.proofs.Root.{Floor, lt-of-squares, floor-unique, rounds-up, rounds-down}
 use Rattle.arithmetic.proofs.Rounds.{exact-floor, square-rounds, no-square-rounds}
 use Rattle.arithmetic.proofs.Width.{Wide, scaled}
-use Rattle.square_root.specs.Root.{Marked, Found, Ended}
+use Rattle.root_digits.specs.Digits.{Marked, Found, Ended}
 
 -- ---- before the first round
 

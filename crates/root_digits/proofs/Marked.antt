@@ -5,7 +5,7 @@ use native.Mathlib.Nat.{add-zero}
 use native.Mathlib.Omega.{arith}
 use lib.Bits.{bitXor, xor-block, xor-zero-r}
 use lib.Pow.{pow-pos}
-use Rattle.square_root.specs.Root.{Marked}
+use Rattle.root_digits.specs.Digits.{Marked}
 
 in-units : (a b i : ℕ) → bitXor (a * 2 ^ i) (b * 2 ^ i) ≡ bitXor a b * 2 ^ i
 in-units a b i =

@@ -3,10 +3,10 @@ use mathlib.Core.Logic.{inl, inr}
 use Prim.Native.Nat.{ℕ, _*_, _^_, _<_}
 use native.Mathlib.Omega.{arith}
 use borrow.Author.Tests.{ltb-true, ltb-false}
-use Rattle.square_root.specs.Root.{Marked, Found}
-use Rattle.square_root.proofs.Round.{t-lt, y-lt, rounds-lt, marked, next}
-use Rattle.square_root.proofs.root.digits_from.Statement.{statement}
-use Rattle.square_root.proofs.root.digits_from.Tie as tie
+use Rattle.root_digits.specs.Digits.{Marked, Found}
+use Rattle.root_digits.proofs.Round.{t-lt, y-lt, rounds-lt, marked, next}
+use Rattle.root_digits.proofs.digits_from.Statement.{statement}
+use Rattle.root_digits.proofs.digits_from.Tie as tie
 
 abbrev Inv-loop : tie.InvT-loop
 Inv-loop m t₀ y₀ r₀ rounds₀ t y r rounds = Found (m * 2 ^ 52) t y r rounds
