@@ -14,7 +14,7 @@ use dodecahedron::work::PlaceDone;
 use dodecahedron::work::PlaceWork;
 use dodecahedron::work::SphericalDone;
 use dodecahedron::work::SphericalWork;
-use transforms::coordinate_transforms::to_lon_lat;
+use geographic::to_lon_lat;
 ghost use mathlib.Core.Path.{_≡_};
 ghost use mathlib.Core.Bool.{false};
 ghost use lib.Ieee.{binary64, sub};

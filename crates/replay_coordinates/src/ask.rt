@@ -37,19 +37,19 @@ fn of_lon_lat(l: LonLat) -> Outcome {
 
 // Degrees in radians.
 pub fn deg_to_rad(words: &[u8; 96]) -> Outcome {
-    let r = coordinate_transforms::deg_to_rad(replay_arguments::degrees(words));
+    let r = geographic::deg_to_rad(replay_arguments::degrees(words));
     one(r.0)
 }
 
 // Radians in degrees.
 pub fn rad_to_deg(words: &[u8; 96]) -> Outcome {
-    let d = coordinate_transforms::rad_to_deg(replay_arguments::radians(words));
+    let d = geographic::rad_to_deg(replay_arguments::radians(words));
     one(d.0)
 }
 
 // A face point in polar coordinates.
 pub fn to_polar(words: &[u8; 96]) -> Outcome {
-    of_polar(coordinate_transforms::to_polar(replay_arguments::face(words, 0)))
+    of_polar(plane::to_polar(replay_arguments::face(words, 0)))
 }
 
 // A polar point on the face; 19 where gamma is outside, which the function's callers rule out.
@@ -58,20 +58,20 @@ pub fn to_face(words: &[u8; 96]) -> Outcome {
     if is_outside(p.gamma.0) {
         return refused(19);
     }
-    of_face(coordinate_transforms::to_face(p))
+    of_face(plane::to_face(p))
 }
 
 // A face point in the coordinates of a triangle.
 pub fn face_to_barycentric(words: &[u8; 96]) -> Outcome {
     let p = replay_arguments::face(words, 0);
-    let b = coordinate_transforms::face_to_barycentric(p, replay_arguments::triangle(words, 2));
+    let b = plane::face_to_barycentric(p, replay_arguments::triangle(words, 2));
     three(b.u, b.v, b.w)
 }
 
 // And back.
 pub fn barycentric_to_face(words: &[u8; 96]) -> Outcome {
     let b = replay_arguments::barycentric(words);
-    of_face(coordinate_transforms::barycentric_to_face(b, replay_arguments::triangle(words, 3)))
+    of_face(plane::barycentric_to_face(b, replay_arguments::triangle(words, 3)))
 }
 
 // A point in spherical coordinates.
@@ -94,7 +94,7 @@ pub fn to_cartesian(words: &[u8; 96]) -> Outcome {
 
 // A longitude in [-180, 180).
 pub fn normalize_longitude(words: &[u8; 96]) -> Outcome {
-    let d = coordinate_transforms::normalize_longitude(replay_arguments::degrees(words));
+    let d = geographic::normalize_longitude(replay_arguments::degrees(words));
     one(d.0)
 }
 

@@ -1,5 +1,4 @@
 // The two conversions as calls: what is out of its range is refused with document 01's number.
-use crate::coordinate_transforms;
 use answer::Check;
 use coordinates::conversions::LonLatAnswer;
 use coordinates::conversions::SphericalAnswer;
@@ -21,7 +20,7 @@ pub fn from_lon_lat(lonlat: LonLat) -> SphericalAnswer
     if let Check::Refused(n) = check {
         return SphericalAnswer::Refused(n);
     }
-    finite_spherical(coordinate_transforms::from_lon_lat(lonlat))
+    finite_spherical(geographic::from_lon_lat(lonlat))
 }
 
 // Spherical angles to longitude and latitude: refuses with 5 and 6, and with 9 where a number is not finite.
@@ -32,5 +31,5 @@ pub fn to_lon_lat(spherical: Spherical) -> LonLatAnswer
     if let Check::Refused(n) = check {
         return LonLatAnswer::Refused(n);
     }
-    finite_lon_lat(coordinate_transforms::to_lon_lat(spherical))
+    finite_lon_lat(geographic::to_lon_lat(spherical))
 }

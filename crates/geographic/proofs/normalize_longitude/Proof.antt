@@ -1,7 +1,7 @@
--- `coordinate_transforms::normalize_longitude` meets its contract. Assumes nothing.
+-- `normalize_longitude` meets its contract. Assumes nothing.
 use Rattle.coordinates.specs.CoordinateTransforms.{normalizeLongitude}
-use Rattle.transforms.proofs.coordinate_transforms.normalize_longitude.Statement.{statement}
-use Rattle.transforms.proofs.coordinate_transforms.normalize_longitude.Tie as tie
+use Rattle.geographic.proofs.normalize_longitude.Statement.{statement}
+use Rattle.geographic.proofs.normalize_longitude.Tie as tie
 
 pub normalize-longitude-spec : {M : Type 1} → statement M
 unfolding normalizeLongitude

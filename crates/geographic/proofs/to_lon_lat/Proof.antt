@@ -1,8 +1,8 @@
--- `coordinate_transforms::to_lon_lat` meets its contract. Assumes nothing.
+-- `to_lon_lat` meets its contract. Assumes nothing.
 use Rattle.elementary.specs.Constants.{FRAC-PI-2}
 use Rattle.coordinates.specs.CoordinateTransforms.{toLonLat}
-use Rattle.transforms.proofs.coordinate_transforms.to_lon_lat.Statement.{statement}
-use Rattle.transforms.proofs.coordinate_transforms.to_lon_lat.Tie as tie
+use Rattle.geographic.proofs.to_lon_lat.Statement.{statement}
+use Rattle.geographic.proofs.to_lon_lat.Tie as tie
 
 inverse-requires : tie.Need-inverse-requires
 unfolding FRAC-PI-2

@@ -1,7 +1,7 @@
--- `coordinate_transforms::to_polar` meets its contract. Assumes nothing.
+-- `to_polar` meets its contract. Assumes nothing.
 use Rattle.coordinates.specs.CoordinateTransforms.{toPolar}
-use Rattle.transforms.proofs.coordinate_transforms.to_polar.Statement.{statement}
-use Rattle.transforms.proofs.coordinate_transforms.to_polar.Tie as tie
+use Rattle.plane.proofs.to_polar.Statement.{statement}
+use Rattle.plane.proofs.to_polar.Tie as tie
 
 returns : tie.Need-returns
 unfolding toPolar

@@ -1,9 +1,9 @@
--- `coordinate_transforms::face_to_barycentric` meets its contract. Assumes nothing.
+-- `face_to_barycentric` meets its contract. Assumes nothing.
 use mathlib.Core.Path.{refl}
 use lib.Ieee.{ofBits}
 use Rattle.coordinates.specs.CoordinateTransforms.{faceToBarycentric}
-use Rattle.transforms.proofs.coordinate_transforms.face_to_barycentric.Statement.{statement}
-use Rattle.transforms.proofs.coordinate_transforms.face_to_barycentric.Tie as tie
+use Rattle.plane.proofs.face_to_barycentric.Statement.{statement}
+use Rattle.plane.proofs.face_to_barycentric.Tie as tie
 
 pub face-to-barycentric-spec : {M : Type 1} → statement M
 unfolding faceToBarycentric ofBits

@@ -1,7 +1,7 @@
--- `coordinate_transforms::from_lon_lat` meets its contract. Assumes nothing.
+-- `from_lon_lat` meets its contract. Assumes nothing.
 use Rattle.coordinates.specs.CoordinateTransforms.{fromLonLat}
-use Rattle.transforms.proofs.coordinate_transforms.from_lon_lat.Statement.{statement}
-use Rattle.transforms.proofs.coordinate_transforms.from_lon_lat.Tie as tie
+use Rattle.geographic.proofs.from_lon_lat.Statement.{statement}
+use Rattle.geographic.proofs.from_lon_lat.Tie as tie
 
 forward-requires : tie.Need-forward-requires
 forward-requires c κs = let theta = c .before .before in rw (c .deg-to-rad2 .ensures) (theta .before .before .pre)

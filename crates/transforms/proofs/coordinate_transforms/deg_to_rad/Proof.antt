@@ -1,9 +1,0 @@
--- `coordinate_transforms::deg_to_rad` meets its contract. Assumes nothing.
-use mathlib.Core.Path.{refl}
-use Rattle.coordinates.specs.CoordinateTransforms.{degToRad}
-use Rattle.transforms.proofs.coordinate_transforms.deg_to_rad.Statement.{statement}
-use Rattle.transforms.proofs.coordinate_transforms.deg_to_rad.Tie as tie
-
-pub deg-to-rad-spec : {M : Type 1} → statement M
-unfolding degToRad
-deg-to-rad-spec = tie.close (tie.spec (λ c. refl))

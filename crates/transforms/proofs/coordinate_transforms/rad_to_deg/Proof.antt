@@ -1,9 +1,0 @@
--- `coordinate_transforms::rad_to_deg` meets its contract. Assumes nothing.
-use mathlib.Core.Path.{refl}
-use Rattle.coordinates.specs.CoordinateTransforms.{radToDeg}
-use Rattle.transforms.proofs.coordinate_transforms.rad_to_deg.Statement.{statement}
-use Rattle.transforms.proofs.coordinate_transforms.rad_to_deg.Tie as tie
-
-pub rad-to-deg-spec : {M : Type 1} → statement M
-unfolding radToDeg
-rad-to-deg-spec = tie.close (tie.spec (λ c. refl))
