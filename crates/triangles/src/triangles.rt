@@ -1,5 +1,5 @@
-// The triangles of slots, and b × c: a filled slot as it stands, and for an empty one the triangle that
-// is built for it.
+// What the triangles of slots are taken with: a run of numbers as a triangle or a vector, the face
+// triangle of a slot, and the vertex of a corner.
 use answer::Refusal;
 use coordinates::base::Radians;
 use coordinates::coords::Cartesian;
@@ -14,11 +14,8 @@ use origin::utils::Origin;
 use plane::to_polar;
 use quaternion::transform_quat;
 use set::sizes::FACE_WIDTH;
-use set::sizes::SPHERE_CROSS;
-use set::sizes::SPHERE_WIDTH;
 use stores::slots::is_filled;
 use transforms::coordinate_transforms::to_cartesian;
-use vector::cross;
 ghost use mathlib.Core.Path.{_≡_};
 ghost use mathlib.Core.Bool.{false};
 ghost use Prim.Native.Nat.{_<_};
@@ -27,10 +24,9 @@ ghost use Rattle.arithmetic.specs.Arith.{ieee};
 ghost use Rattle.elementary.specs.Sine.{beyond};
 ghost use Rattle.coordinates.specs.Constants.{8·0};
 ghost use Rattle.crs.specs.Frame.{givenVertex};
-ghost use Rattle.set.specs.Outcome.{lent};
-ghost use Rattle.set.specs.Sizes.{FACE-COORDINATES, FACE-SLOTS, FACE-STORE, SPHERE-COORDINATES, SPHERE-SLOTS, SPHERE-STORE};
+ghost use Rattle.set.specs.Sizes.{FACE-COORDINATES, FACE-SLOTS, FACE-STORE, SPHERE-COORDINATES};
 ghost use Rattle.stores.specs.Slots.{faceIn, sphereIn, vectorIn};
-ghost use Rattle.triangles.specs.Triangles.{faceTaken, cornerVertex, sphereBuilt, sphereTaken, crossTaken, givenTriangle};
+ghost use Rattle.triangles.specs.Triangles.{faceTaken, cornerVertex};
 
 // A sphere triangle, or 8.
 pub enum TriangleAnswer {
@@ -59,7 +55,8 @@ fn read_face(run: &[f64]) -> FaceTriangle
     }
 }
 
-fn read_sphere(run: &[f64]) -> SphericalTriangle
+// The same of a sphere slot.
+pub fn read_sphere(run: &[f64]) -> SphericalTriangle
     requires { ⌜ length (now run) ≡ SPHERE-COORDINATES ⌝ }
     ensures { λ r. ⌜ r ≡ sphereIn (now (run .entry)) ⌝ }
 {
@@ -83,7 +80,7 @@ fn read_sphere(run: &[f64]) -> SphericalTriangle
 }
 
 // A vector of three numbers, as it stands.
-fn read_vector(run: &[f64]) -> Cartesian
+pub fn read_vector(run: &[f64]) -> Cartesian
     requires { ⌜ length (now run) ≡ 3 ⌝ }
     ensures { λ r. ⌜ r ≡ vectorIn (now (run .entry)) ⌝ }
 {
@@ -95,7 +92,7 @@ fn read_vector(run: &[f64]) -> Cartesian
 }
 
 // The face triangle of a slot, as it stands or as it is defined.
-pub(crate) fn take_face(store: &[f64], slot: usize) -> FaceTriangle
+pub fn take_face(store: &[f64], slot: usize) -> FaceTriangle
     requires { ⌜ (slot < FACE-SLOTS) × (length (now store) ≡ FACE-STORE) ⌝ }
     ensures { λ r. ⌜ r ≡ faceTaken ieee (now (store .entry)) slot ⌝ }
 {
@@ -109,7 +106,7 @@ pub(crate) fn take_face(store: &[f64], slot: usize) -> FaceTriangle
 
 // A corner of a face triangle, turned to the origin and looked up in the frame: unprojected to the
 // sphere with the origin's own angle on top, and rotated out of the origin's space.
-fn corner_vertex(frame: &[f64], origin: Origin, corner: Face) -> VertexAnswer
+pub fn corner_vertex(frame: &[f64], origin: Origin, corner: Face) -> VertexAnswer
     requires { ⌜ beyond 8·0 (origin .angle .0) ≡ false ⌝ }
     ensures { λ r. ⌜ givenVertex r ≡ cornerVertex ieee (now (frame .entry)) origin corner ⌝ }
 {
@@ -121,59 +118,4 @@ fn corner_vertex(frame: &[f64], origin: Origin, corner: Face) -> VertexAnswer
     let rotated = to_cartesian(transforms::gnomonic::inverse(rotated_polar));
     let quat = origin.quat;
     crs::frame::get_vertex(frame, transform_quat(rotated, quat))
-}
-
-// compute_spherical_triangle: the three corners looked up; 8 where one has no row.
-fn build_sphere(frame: &[f64], origin: Origin, t: FaceTriangle) -> TriangleAnswer
-    requires { ⌜ beyond 8·0 (origin .angle .0) ≡ false ⌝ }
-    ensures { λ r. ⌜ givenTriangle r ≡ sphereBuilt ieee (now (frame .entry)) origin t ⌝ }
-{
-    match corner_vertex(frame, origin, t.a) {
-        VertexAnswer::Refused(n) => TriangleAnswer::Refused(n),
-        VertexAnswer::Answered(a) => match corner_vertex(frame, origin, t.b) {
-            VertexAnswer::Refused(n) => TriangleAnswer::Refused(n),
-            VertexAnswer::Answered(b) => match corner_vertex(frame, origin, t.c) {
-                VertexAnswer::Refused(n) => TriangleAnswer::Refused(n),
-                VertexAnswer::Answered(c) => {
-                    TriangleAnswer::Answered(SphericalTriangle { a, b, c })
-                }
-            },
-        },
-    }
-}
-
-// The sphere triangle of a slot, built on the face triangle of the slot source where it is empty.
-pub(crate) fn take_sphere(
-    frame: &[f64],
-    face_store: &[f64],
-    sphere_store: &[f64],
-    origin: Origin,
-    slot: usize,
-    source: usize,
-) -> TriangleAnswer
-    requires { ⌜ (slot < SPHERE-SLOTS) × (length (now «sphere_store») ≡ SPHERE-STORE) ⌝ }
-    requires { ⌜ (source < FACE-SLOTS) × (length (now «face_store») ≡ FACE-STORE) ⌝ }
-    requires { ⌜ beyond 8·0 (origin .angle .0) ≡ false ⌝ }
-    ensures { λ r. ⌜ givenTriangle r ≡ sphereTaken ieee (lent frame «face_store» «sphere_store» .entry) origin slot source ⌝ }
-{
-    let at = slot * SPHERE_WIDTH;
-    if is_filled(sphere_store, at) {
-        TriangleAnswer::Answered(read_sphere(&sphere_store[at + 1..at + SPHERE_CROSS]))
-    } else {
-        build_sphere(frame, origin, take_face(face_store, source))
-    }
-}
-
-// B × C of the triangle t that was taken from a slot: as it stands there, and formed where the slot is
-// empty.
-pub(crate) fn take_cross(store: &[f64], slot: usize, t: SphericalTriangle) -> Cartesian
-    requires { ⌜ (slot < SPHERE-SLOTS) × (length (now store) ≡ SPHERE-STORE) ⌝ }
-    ensures { λ r. ⌜ r ≡ crossTaken ieee (now (store .entry)) slot t ⌝ }
-{
-    let at = slot * SPHERE_WIDTH;
-    if is_filled(store, at) {
-        read_vector(&store[at + SPHERE_CROSS..at + SPHERE_WIDTH])
-    } else {
-        cross(t.b, t.c)
-    }
 }

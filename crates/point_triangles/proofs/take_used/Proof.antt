@@ -1,4 +1,4 @@
--- `taken::take_used` meets its contract. Assumes nothing.
+-- `take_used` meets its contract. Assumes nothing.
 use mathlib.Core.Path.{_≡_, sym, ap, _∙_}
 use borrow.Author.Needs.{needs}
 use native.Mathlib.Omega.{arith}
@@ -9,10 +9,10 @@ use Rattle.tiling.proofs.Modulo.{index-below-10}
 use Rattle.set.specs.Sizes.{SPHERE-SLOTS, SPHERE-STORE}
 use Rattle.set.proofs.Lengths.{call-passed}
 use Rattle.stores.proofs.Within.{source-below, sphere-below}
 use Rattle.triangles.specs.Triangles.{givenTriangle}
 use Rattle.triangles.proofs.Within.{used-refused, used-answered}
-use Rattle.triangles.proofs.taken.take_used.Statement.{statement}
-use Rattle.triangles.proofs.taken.take_used.Tie as tie
+use Rattle.point_triangles.proofs.take_used.Statement.{statement}
+use Rattle.point_triangles.proofs.take_used.Tie as tie
 
 index-small : (c : tie.After-get-face-triangle-index) → c .get-face-triangle-index .result < 10
 index-small c = rw (c .get-face-triangle-index .ensures) (index-below-10 ieee _)

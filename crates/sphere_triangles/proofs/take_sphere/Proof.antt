@@ -1,9 +1,9 @@
--- `triangles::take_sphere` meets its contract. Assumes nothing.
+-- `take_sphere` meets its contract. Assumes nothing.
 use borrow.Author.Needs.{needs}
 use Rattle.triangles.specs.Triangles.{sphereTaken}
 use Rattle.stores.proofs.Runs.{gap}
-use Rattle.triangles.proofs.triangles.take_sphere.Statement.{statement}
-use Rattle.triangles.proofs.triangles.take_sphere.Tie as tie
+use Rattle.sphere_triangles.proofs.take_sphere.Statement.{statement}
+use Rattle.sphere_triangles.proofs.take_sphere.Tie as tie
 
 returns : tie.Need-returns
 unfolding sphereTaken

@@ -1,8 +1,8 @@
--- `triangles::build_sphere` meets its contract. Assumes nothing.
+-- `build_sphere` meets its contract. Assumes nothing.
 use borrow.Author.Needs.{needs}
 use Rattle.triangles.specs.Triangles.{sphereBuilt}
-use Rattle.triangles.proofs.triangles.build_sphere.Statement.{statement}
-use Rattle.triangles.proofs.triangles.build_sphere.Tie as tie
+use Rattle.sphere_triangles.proofs.build_sphere.Statement.{statement}
+use Rattle.sphere_triangles.proofs.build_sphere.Tie as tie
 
 returns : tie.Need-returns
 unfolding sphereBuilt

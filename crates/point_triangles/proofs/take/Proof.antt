@@ -1,4 +1,4 @@
--- `taken::take` meets its contract. Assumes nothing.
+-- `take` meets its contract. Assumes nothing.
 use mathlib.Core.Path.{_≡_, sym, ap, _∙_}
 use borrow.Author.Needs.{needs}
 use Rattle.answer.specs.Answer.{givenCheck}
@@ -8,10 +8,10 @@ use Rattle.set.specs.Checks.{checkCall}
 use Rattle.set.specs.Outcome.{held}
 use Rattle.set.proofs.Lengths.{call-passed}
 use Rattle.stores.proofs.Within.{face-below}
 use Rattle.triangles.specs.Taken.{faceFor, givenUsed}
 use Rattle.triangles.proofs.Within.{set-refused, taken-refused, taken-answered, used-within}
-use Rattle.triangles.proofs.taken.take.Statement.{statement}
-use Rattle.triangles.proofs.taken.take.Tie as tie
+use Rattle.point_triangles.proofs.take.Statement.{statement}
+use Rattle.point_triangles.proofs.take.Tie as tie
 
 returns : tie.Need-returns
 returns c =

@@ -1,9 +1,9 @@
--- `triangles::take_cross` meets its contract. Assumes nothing.
+-- `take_cross` meets its contract. Assumes nothing.
 use borrow.Author.Needs.{needs}
 use Rattle.triangles.specs.Triangles.{crossTaken}
 use Rattle.stores.proofs.Runs.{gap}
-use Rattle.triangles.proofs.triangles.take_cross.Statement.{statement}
-use Rattle.triangles.proofs.triangles.take_cross.Tie as tie
+use Rattle.sphere_triangles.proofs.take_cross.Statement.{statement}
+use Rattle.sphere_triangles.proofs.take_cross.Tie as tie
 
 returns : tie.Need-returns
 unfolding crossTaken
