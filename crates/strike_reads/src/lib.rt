@@ -2,8 +2,8 @@
 // next one. A read that fails counts as the input's end, and a write that fails ends the session.
 use libc::STDIN_FILENO;
 use libc::STDOUT_FILENO;
+use strike_buffer::feed_buffer;
 use strike_session::session::Stage;
-use strike_session::session::feed_buffer;
 use strike_session::session::is_over;
 ghost use mathlib.Core.Path.{_≡_};
 ghost use mathlib.Core.Bool.{true, false};

@@ -1,4 +1,4 @@
--- `session::feed_header` meets its contract: a header that has not arrived, a right one, and a wrong one without and with room for its
+-- `feed_header` meets its contract: a header that has not arrived, a right one, and a wrong one without and with room for its
 -- line. Assumes nothing.
 use mathlib.Core.Path.{refl, sym, ap, _∙_}
 use mathlib.Core.List.{List}
@@ -9,14 +9,14 @@ use Rattle.arithmetic.specs.Arith.{ieee}
 use Rattle.origin.specs.Origins.{ORIGINS}
 use Rattle.set.specs.Set.{setOf}
 use Rattle.strike_records.specs.Line.{refusalLine}
 use Rattle.strike_session.specs.Session.{MAX-RECORDS}
 use Rattle.strike_session.specs.Pieces.{answerable, wrongHeader, recordsFed}
 use Rattle.strike_session.specs.declared.session.Stage.the-variants.{Header}
 use Rattle.strike_records.proofs.Written.{writes-as}
 use Rattle.strike_session.proofs.Feeding.{tail-is, fed-short, fed-headed, fed-narrow, fed-wrong}
 use Rattle.strike_session.proofs.Results.{feeds-as, feeds-none}
-use Rattle.strike_session.proofs.session.feed_header.Statement.{statement}
-use Rattle.strike_session.proofs.session.feed_header.Tie as tie
+use Rattle.strike_feed.proofs.feed_header.Statement.{statement}
+use Rattle.strike_feed.proofs.feed_header.Tie as tie
 
 returns : tie.Need-returns
 returns c =

@@ -1,4 +1,4 @@
--- `session::feed_records` meets its contract. Assumes nothing.
+-- `feed_records` meets its contract. Assumes nothing.
 use mathlib.Core.Path.{_≡_, refl, ap, _∙_}
 use Prim.Native.Nat.{min}
 use borrow.Author.Needs.{needs}
@@ -6,10 +6,10 @@ use lib.ListN.{length}
 use Rattle.arithmetic.specs.Arith.{ieee}
 use Rattle.origin.specs.Origins.{ORIGINS}
 use Rattle.set.specs.Set.{Set, setOf}
 use Rattle.strike_session.specs.Pieces.{answerable, Fed, recordsFed}
 use Rattle.strike_session.proofs.Results.{feeds-as}
-use Rattle.strike_session.proofs.session.feed_records.Statement.{statement}
-use Rattle.strike_session.proofs.session.feed_records.Tie as tie
+use Rattle.strike_feed.proofs.feed_records.Statement.{statement}
+use Rattle.strike_feed.proofs.feed_records.Tie as tie
 
 returns : tie.Need-returns
 unfolding recordsFed

@@ -1,4 +1,4 @@
--- `session::feed` meets its contract, stage by stage. Assumes nothing.
+-- `feed` meets its contract, stage by stage. Assumes nothing.
 use mathlib.Core.Path.{sym, ap, _∙_}
 use Prim.Native.Nat.{zero-le}
 use borrow.Author.Needs.{needs}
@@ -6,13 +6,13 @@ use lib.ListN.{length}
 use Rattle.arithmetic.specs.Arith.{ieee}
 use Rattle.origin.specs.Origins.{ORIGINS}
 use Rattle.set.specs.Set.{setOf}
 use Rattle.strike_session.specs.Pieces.{still, fed}
 use Rattle.strike_session.specs.declared.session.Stage.{Stage}
 use Rattle.strike_session.specs.declared.session.Stage.the-variants.{Header, Records}
 use Rattle.strike_session.proofs.Feeding.{bounded}
 use Rattle.strike_session.proofs.Results.{feeds-as, feeds-none}
-use Rattle.strike_session.proofs.session.feed.Statement.{statement}
-use Rattle.strike_session.proofs.session.feed.Tie as tie
+use Rattle.strike_feed.proofs.feed.Statement.{statement}
+use Rattle.strike_feed.proofs.feed.Tie as tie
 
 returns : tie.Need-returns
 returns c =

@@ -1,4 +1,4 @@
--- `session::keep_rest` meets its contract. The loop's invariant: the first i bytes are the first of what is left over, and the others
+-- `keep_rest` meets its contract. The loop's invariant: the first i bytes are the first of what is left over, and the others
 -- are as they were. The measure is the bytes still to be moved. Assumes nothing.
 use mathlib.Core.Path.{_≡_, refl, sym, ap, _∙_}
 use mathlib.Core.List.{List, _++_}
@@ -9,9 +9,9 @@ use lib.ListN.{length, getD, take, drop, length-take, length-drop, set, length-s
 use lib.Seq.{take-all, getD-take, getD-drop, getD-append-add, length-take-le}
 use Rattle.stores.specs.Slots.{put}
 use Rattle.set.proofs.Overwrite.{over, store}
 use Rattle.strike_session.specs.Pieces.{leftOver}
-use Rattle.strike_session.proofs.session.keep_rest.Statement.{statement}
-use Rattle.strike_session.proofs.session.keep_rest.Tie as tie
+use Rattle.strike_buffer.proofs.keep_rest.Statement.{statement}
+use Rattle.strike_buffer.proofs.keep_rest.Tie as tie
 
 abbrev Inv-loop : tie.InvT-loop
 Inv-loop buffer₀ taken filled end from₀ i₀ buffer from i =

@@ -1,4 +1,4 @@
--- `session::feed_buffer` meets its contract: the bytes of the buffer are fed, and what was not taken of them is moved to its start.
+-- `feed_buffer` meets its contract: the bytes of the buffer are fed, and what was not taken of them is moved to its start.
 -- Assumes nothing.
 use mathlib.Core.Path.{_≡_, sym, ap, _∙_}
 use mathlib.Core.List.{List}
@@ -9,12 +9,12 @@ use lib.Seq.{length-take-le}
 use Rattle.arithmetic.specs.Arith.{ieee}
 use Rattle.origin.specs.Origins.{ORIGINS}
 use Rattle.set.specs.Set.{setOf}
 use Rattle.strike_session.specs.Pieces.{fed}
 use Rattle.strike_records.proofs.Written.{writes-as}
 use Rattle.strike_session.proofs.Feeding.{take-min}
 use Rattle.strike_session.proofs.Results.{feeds-as}
-use Rattle.strike_session.proofs.session.feed_buffer.Statement.{statement}
-use Rattle.strike_session.proofs.session.feed_buffer.Tie as tie
+use Rattle.strike_buffer.proofs.feed_buffer.Statement.{statement}
+use Rattle.strike_buffer.proofs.feed_buffer.Tie as tie
 
 slice-aggregate-feed : tie.Need-slice-aggregate-feed
 slice-aggregate-feed c = sym (length-take-le _ _ (search needs))
