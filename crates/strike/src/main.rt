@@ -4,7 +4,7 @@ use libc::STDOUT_FILENO;
 use set::sizes::FACE_STORE;
 use set::sizes::FRAME;
 use set::sizes::SPHERE_STORE;
-use strike_reads::read_all;
+use strike_input::read_all;
 use strike_session::session::Stage;
 use strike_session::session::begin;
 use strike_session::session::finish;

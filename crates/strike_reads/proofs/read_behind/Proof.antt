@@ -1,4 +1,4 @@
--- `strike::read_behind` meets its contract. Assumes nothing.
+-- `read_behind` meets its contract. Assumes nothing.
 use borrow.Author.Needs.{needs}
 use borrow.Rule.Slice.PartMut.{take-put}
 use Prim.Native.Nat.{_-_}

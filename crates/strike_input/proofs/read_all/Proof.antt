@@ -1,4 +1,4 @@
--- `strike::read_all` meets its contract. The loop's invariant: the standing is what the reads came to, lengths are as they were, and where the program
+-- `read_all` meets its contract. The loop's invariant: the standing is what the reads came to, lengths are as they were, and where the program
 -- has not ended, the reads that are left last for the bytes that the session can still take. The measure is the number of reads that are left.
 -- Assumes nothing.
 use mathlib.Core.Path.{_≡_, refl, sym, _∙_, subst}
@@ -12,10 +12,10 @@ use lib.ListN.{length}
 use lib.Seq.{length-take-le}
 use Rattle.strike_records.specs.Line.{LINE}
 use Rattle.set.specs.Set.{setOf}
 use Rattle.strike_reads.specs.Steps.{State, stateOf, Read, none}
 use Rattle.strike_reads.proofs.Counted.{Counted, some-left, few-kept, counted-first, read-on, counted-on}
-use Rattle.strike_reads.proofs.read_all.Statement.{statement}
-use Rattle.strike_reads.proofs.read_all.Tie as tie
+use Rattle.strike_input.proofs.read_all.Statement.{statement}
+use Rattle.strike_input.proofs.read_all.Tie as tie
 
 abbrev Inv-loop : tie.InvT-loop
 Inv-loop frame faces₀ spheres₀ buffer₀ out₀ at₀ reads₀ faces spheres buffer out at reads =

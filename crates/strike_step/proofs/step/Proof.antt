@@ -1,4 +1,4 @@
--- `strike::step` meets its contract: it rests, or feeds what arrived, and then the standing is what feeding gives. Assumes nothing.
+-- `step` meets its contract: it rests, or feeds what arrived, and then the standing is what feeding gives. Assumes nothing.
 use mathlib.Core.Path.{_≡_, refl, sym, _∙_}
 use mathlib.Core.Bool.{false}
 use mathlib.Core.List.{List}
@@ -9,10 +9,10 @@ use lib.ListN.{length}
 use lib.Seq.{length-take-le}
 use Rattle.set.specs.Set.{setOf}
 use Rattle.strike_session.specs.Pieces.{over}
 use Rattle.strike_reads.specs.Steps.{rests, feeds}
 use Rattle.strike_reads.proofs.Arrived.{arrived, arrived-length, next-is, lines-are}
-use Rattle.strike_reads.proofs.step.Statement.{statement}
-use Rattle.strike_reads.proofs.step.Tie as tie
+use Rattle.strike_step.proofs.step.Statement.{statement}
+use Rattle.strike_step.proofs.step.Tie as tie
 
 slice-aggregate-write-all : tie.Need-slice-aggregate-write-all
 slice-aggregate-write-all c = sym (length-take-le _ _ (search needs))
