@@ -44,9 +44,9 @@ use Rattle.region_core.proofs.work.RegionWork.Laws as K′
 use Rattle.region_core.proofs.work.points_in as points
 use Rattle.region_core.proofs.work.count_in as count
 use Rattle.region_core.proofs.work.answer_in as answer
-use Rattle.region.specs.Copies.{CopiedIn, writtenOut}
-use Rattle.region.proofs.copies.copy_in as copy
-use Rattle.region.proofs.copies.write_out as write
+use Rattle.region_copies.specs.Copies.{CopiedIn, writtenOut}
+use Rattle.region_copies.proofs.copy_in as copy
+use Rattle.region_copies.proofs.write_out as write
 
 -- the arrays
 abbrev pub Positions : RattleType

@@ -1,6 +1,3 @@
 -- What the walks of this crate share.
-pub mod Arrays
-pub mod Copied
-pub mod Counted
 pub mod Calls
 pub mod Whole

@@ -27,7 +27,7 @@ use Rattle.region_work.specs.declared.region.RegionAnswer.{RegionAnswer}
 use Rattle.region_core.specs.declared.work.RegionWork.{RegionWork}
 use Rattle.region_work.specs.Region.{givenRegion, checkPositions, firstFailing, checkOrigins, regionOf, RegionCalled, regionCalled, regionLeft, regionGiven, regionOn}
 use Rattle.region_work.specs.Parts.{Worked, worked, countOf, regionWorked}
-use Rattle.region.specs.Copies.{CopiedIn, writtenOut}
+use Rattle.region_copies.specs.Copies.{CopiedIn, writtenOut}
 
 or-right : (t : Bool) → t || true ≡ true
 or-right true = refl

@@ -1,11 +1,9 @@
-// A region on one face (document 02, Paper 4), on lent slices: the positions are copied in, crate region_work works the region
-// out, and the points are written out.
-pub mod copies;
-
-use crate::copies::copy_in;
-use crate::copies::write_out;
+// A region on one face (document 02, Paper 4), on lent slices: crate region_copies copies the positions in and the points out, and
+// crate region_core works the region out.
 use coordinates::coords::Face;
 use coordinates::lonlat::LonLat;
+use region_copies::copy_in;
+use region_copies::write_out;
 use region_core::work::answer_in;
 use region_core::work::count_in;
 use region_core::work::points_in;

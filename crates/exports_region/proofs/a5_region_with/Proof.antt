@@ -67,7 +67,7 @@ use Rattle.region_work.specs.declared.region.RegionAnswer.{RegionAnswer}
 use Rattle.region_work.specs.Region.{RegionCalled, givenRegion, regionCalled, regionOn}
 use Rattle.region_work.proofs.region.RegionAnswer as E
 use Rattle.region_work.proofs.region.RegionAnswer.Laws as E′
-use Rattle.region.proofs.Counted.{tyAt}
+use Rattle.region_copies.proofs.Counted.{tyAt}
 use Rattle.region.proofs.region_with as region
 use Rattle.region.proofs.region_with.Symbol as region-def
 use Rattle.region.proofs.region_with.Symbol.{name as #region}

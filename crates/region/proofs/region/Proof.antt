@@ -81,12 +81,12 @@ use Rattle.region.proofs.Calls.{Positions, Points, Copying, TakingPoint
 use Rattle.region.proofs.Calls.{positions-typed, positions-made, points-typed, to-copy, goes-copy, Copied, CopyEnsured, copy-gives}
 use Rattle.region.proofs.Calls.{to-points, goes-points, PointsEnsured, points-gives, to-count, goes-count, CountEnsured, count-gives}
 use Rattle.region.proofs.Calls.{to-answer, goes-answer, AnswerEnsured, answer-gives, to-write, goes-write, WriteLists, WriteEnsured, WriteLasts, Written}
-use Rattle.region.proofs.copies.copy_in.Symbol as copy-def
-use Rattle.region.proofs.copies.copy_in.Symbol.{name as #copy-in}
-use Rattle.region.proofs.copies.copy_in.Met as copy-thm
-use Rattle.region.proofs.copies.write_out.Symbol as write-def
-use Rattle.region.proofs.copies.write_out.Symbol.{name as #write-out}
-use Rattle.region.proofs.copies.write_out.Met as write-thm
+use Rattle.region_copies.proofs.copy_in.Symbol as copy-def
+use Rattle.region_copies.proofs.copy_in.Symbol.{name as #copy-in}
+use Rattle.region_copies.proofs.copy_in.Met as copy-thm
+use Rattle.region_copies.proofs.write_out.Symbol as write-def
+use Rattle.region_copies.proofs.write_out.Symbol.{name as #write-out}
+use Rattle.region_copies.proofs.write_out.Met as write-thm
 use Rattle.region.proofs.region.Key.{name as #region}
 use Rattle.region.proofs.region as f
 use Rattle.region.proofs.region.Statement as stated
@@ -443,7 +443,7 @@ module _ {M : Type 1} (𝓤 : URA M) (H : Heap 𝓤) (A : Atoms 𝓤) (W : Given
 pub region-spec : {M : Type 1} → stated.statement M
 unfolding code.routine tablesOf
 region-spec 𝓤 H 𝓜 𝓖 𝓡 =
-    let copying = cited 𝓤 H (Copying 𝓤 H (𝓖 .A) (𝓜 .mem) (𝓡 .run)) 𝓜 𝓡 code.env #copy-in copy-def.routine code.calls-region·copies·copy-in
+    let copying = cited 𝓤 H (Copying 𝓤 H (𝓖 .A) (𝓜 .mem) (𝓡 .run)) 𝓜 𝓡 code.env #copy-in copy-def.routine code.calls-region-copies·copy-in
     (copy-thm.met 𝓤 H 𝓜 𝓖 𝓡) in
     let working = cited 𝓤 H (Working 𝓤 H (𝓖 .A) (𝓜 .mem) (𝓡 .run)) 𝓜 𝓡 code.env #work work-def.routine code.calls-region-core·work·work
     (work-thm.met 𝓤 H 𝓜 𝓖 𝓡) in
@@ -451,7 +451,7 @@ region-spec 𝓤 H 𝓜 𝓖 𝓡 =
     code.calls-region-core·work·points-in (points-thm.met 𝓤 H 𝓜 𝓖 𝓡) in
     let taking-count = cited 𝓤 H (TakingCount 𝓤 H (𝓖 .A) (𝓜 .mem) (𝓡 .run)) 𝓜 𝓡 code.env #count-in count-def.routine
     code.calls-region-core·work·count-in (count-thm.met 𝓤 H 𝓜 𝓖 𝓡) in
-    let writing = cited 𝓤 H (Writing 𝓤 H (𝓖 .A) (𝓜 .mem) (𝓡 .run)) 𝓜 𝓡 code.env #write-out write-def.routine code.calls-region·copies·write-out
+    let writing = cited 𝓤 H (Writing 𝓤 H (𝓖 .A) (𝓜 .mem) (𝓡 .run)) 𝓜 𝓡 code.env #write-out write-def.routine code.calls-region-copies·write-out
     (write-thm.met 𝓤 H 𝓜 𝓖 𝓡) in
     let taking-answer = cited 𝓤 H (TakingAnswer 𝓤 H (𝓖 .A) (𝓜 .mem) (𝓡 .run)) 𝓜 𝓡 code.env #answer-in answer-def.routine
     code.calls-region-core·work·answer-in (answer-thm.met 𝓤 H 𝓜 𝓖 𝓡) in

@@ -55,7 +55,7 @@ use Rattle.region_work.specs.Region.{givenRegion}
 use Rattle.region_work.proofs.region.RegionAnswer as E
 use Rattle.region_work.proofs.region.RegionAnswer.Laws as E′
 use Rattle.exports_region.specs.Regions.{isAnswered, boxOf}
-use Rattle.region.proofs.Counted.{tyAt}
+use Rattle.region_copies.proofs.Counted.{tyAt}
 use Rattle.exports_region.proofs.Told.{answered-box, refused-box}
 use Rattle.exports_region.proofs.answers.is_answered as test
 use Rattle.exports_region.proofs.answers.is_answered.Symbol as test-def

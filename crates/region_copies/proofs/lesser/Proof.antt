@@ -1,8 +1,8 @@
 -- `lesser` meets its contract: each arm returns the lesser, by the test that led there. Assumes nothing.
 use mathlib.Core.Path.{sym}
 use native.Mathlib.Nat.{min-eq-left, min-eq-right, le-of-lt}
-use Rattle.region.proofs.copies.lesser.Statement.{statement}
-use Rattle.region.proofs.copies.lesser.Tie as tie
+use Rattle.region_copies.proofs.lesser.Statement.{statement}
+use Rattle.region_copies.proofs.lesser.Tie as tie
 
 returns : tie.Need-returns
 returns c = sym (min-eq-left (le-of-lt (c .if1 .taken)))

@@ -17,7 +17,7 @@ use lib.Seq.{drop-cons, take-suc, set-at, length-take-le, take-append-seam, take
 use borrow.Author.Tests.{leb-true, leb-false}
 use Rattle.coordinates.specs.declared.lonlat.LonLat.{LonLat}
 use Rattle.coordinates.specs.declared.coords.Face.{Face}
-use Rattle.region.specs.Copies.{CopiedIn, writtenOut}
+use Rattle.region_copies.specs.Copies.{CopiedIn, writtenOut}
 
 -- what stands behind the end of a list of positions, and of points
 abbrev pub nowhere : LonLat

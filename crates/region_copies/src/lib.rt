@@ -1,10 +1,11 @@
-// The positions of a region copied out of the slice that is lent, and its points copied into the slice that is lent.
+// The positions of a region copied out of the slice that is lent, and its points copied into the slice that is lent (document 02,
+// Paper 4). Crate region has the call.
 use coordinates::base::Degrees;
 use coordinates::coords::Face;
 use coordinates::lonlat::LonLat;
 ghost use Prim.Native.Nat.{min};
 ghost use mathlib.Core.Path.{_≡_};
-ghost use Rattle.region.specs.Copies.{CopiedIn, writtenOut};
+ghost use Rattle.region_copies.specs.Copies.{CopiedIn, writtenOut};
 
 // The lesser of two numbers.
 fn lesser(a: usize, b: usize) -> usize

@@ -57,23 +57,23 @@ use borrow.Author.Tests.{lt-ltb, le-ltb}
 use Rattle.coordinates.specs.declared.lonlat.LonLat.{LonLat}
 use Rattle.coordinates.proofs.lonlat.LonLat as T
 use Rattle.coordinates.proofs.lonlat.LonLat.Laws as T′
-use Rattle.region.specs.Copies.{CopiedIn}
-use Rattle.region.proofs.Arrays.{cell-row, row-cell}
-use Rattle.region.proofs.Copied.{nowhere, copied, length-copied, all-in}
-use Rattle.region.proofs.Counted.{one-more, next-fits, start-fits, tyAt, Turn, counted}
-use Rattle.region.proofs.copies.lesser as lesser
-use Rattle.region.proofs.copies.lesser.Symbol as lesser-def
-use Rattle.region.proofs.copies.lesser.Symbol.{name as #lesser}
-use Rattle.region.proofs.copies.lesser.Met as lesser-thm
-use Rattle.region.proofs.copies.blank as blank
-use Rattle.region.proofs.copies.blank.Symbol as blank-def
-use Rattle.region.proofs.copies.blank.Symbol.{name as #blank}
-use Rattle.region.proofs.copies.blank.Met as blank-thm
-use Rattle.region.proofs.copies.copy_in.Key.{name as #copy-in}
-use Rattle.region.proofs.copies.copy_in as f
-use Rattle.region.proofs.copies.copy_in.Statement as stated
-use Rattle.region.proofs.copies.copy_in.Code as code
-use Rattle.region.proofs.copies.copy_in.Code.Mir as Mir
+use Rattle.region_copies.specs.Copies.{CopiedIn}
+use Rattle.region_copies.proofs.Arrays.{cell-row, row-cell}
+use Rattle.region_copies.proofs.Copied.{nowhere, copied, length-copied, all-in}
+use Rattle.region_copies.proofs.Counted.{one-more, next-fits, start-fits, tyAt, Turn, counted}
+use Rattle.region_copies.proofs.lesser as lesser
+use Rattle.region_copies.proofs.lesser.Symbol as lesser-def
+use Rattle.region_copies.proofs.lesser.Symbol.{name as #lesser}
+use Rattle.region_copies.proofs.lesser.Met as lesser-thm
+use Rattle.region_copies.proofs.blank as blank
+use Rattle.region_copies.proofs.blank.Symbol as blank-def
+use Rattle.region_copies.proofs.blank.Symbol.{name as #blank}
+use Rattle.region_copies.proofs.blank.Met as blank-thm
+use Rattle.region_copies.proofs.copy_in.Key.{name as #copy-in}
+use Rattle.region_copies.proofs.copy_in as f
+use Rattle.region_copies.proofs.copy_in.Statement as stated
+use Rattle.region_copies.proofs.copy_in.Code as code
+use Rattle.region_copies.proofs.copy_in.Code.Mir as Mir
 
 abbrev stayed : Stays (f.ended .signature .params) (f.ended .kept)
 stayed = (stay-none-slice (0 ∷ []) tt (plain (λ _. T.the-row)) yes, tt)
@@ -377,9 +377,9 @@ module _ {M : Type 1} (𝓤 : URA M) (H : Heap 𝓤) (A : Atoms 𝓤) (W : Given
 pub copy-in-spec : {M : Type 1} → stated.statement M
 unfolding code.routine tablesOf
 copy-in-spec 𝓤 H 𝓜 𝓖 𝓡 =
-    let lessening = cited 𝓤 H (Lesser 𝓤 H (𝓖 .A) (𝓜 .mem) (𝓡 .run)) 𝓜 𝓡 code.env #lesser lesser-def.routine code.calls-region·copies·lesser
+    let lessening = cited 𝓤 H (Lesser 𝓤 H (𝓖 .A) (𝓜 .mem) (𝓡 .run)) 𝓜 𝓡 code.env #lesser lesser-def.routine code.calls-region-copies·lesser
     (lesser-thm.met 𝓤 H 𝓜 𝓖 𝓡) in
-    let blanking = cited 𝓤 H (Blank 𝓤 H (𝓖 .A) (𝓜 .mem) (𝓡 .run)) 𝓜 𝓡 code.env #blank blank-def.routine code.calls-region·copies·blank
+    let blanking = cited 𝓤 H (Blank 𝓤 H (𝓖 .A) (𝓜 .mem) (𝓡 .run)) 𝓜 𝓡 code.env #blank blank-def.routine code.calls-region-copies·blank
     (blank-thm.met 𝓤 H 𝓜 𝓖 𝓡) in
     entered 𝓤 H (tripleOf 𝓤 H (𝓖 .A) f.signature (f.spec 𝓤 H (𝓖 .A) (𝓜 .mem) (𝓡 .run)))
     (tables 𝓤 H 𝓜 𝓡 code.env .C) (tables 𝓤 H 𝓜 𝓡 code.env .Λ) #copy-in code.function (code.unfolded 𝓤 H 𝓜 𝓡)

@@ -59,19 +59,19 @@ use borrow.Author.Tests.{lt-ltb, le-ltb}
 use Rattle.coordinates.specs.declared.coords.Face.{Face}
 use Rattle.coordinates.proofs.coords.Face as R
 use Rattle.coordinates.proofs.coords.Face.Laws as R′
-use Rattle.region.specs.Copies.{writtenOut}
-use Rattle.region.proofs.Arrays.{cell-row, row-cell}
-use Rattle.region.proofs.Copied.{no-point, copied, length-copied, all-out}
-use Rattle.region.proofs.Counted.{one-more, next-fits, start-fits, tyAt, Turn, counted}
-use Rattle.region.proofs.copies.lesser as lesser
-use Rattle.region.proofs.copies.lesser.Symbol as lesser-def
-use Rattle.region.proofs.copies.lesser.Symbol.{name as #lesser}
-use Rattle.region.proofs.copies.lesser.Met as lesser-thm
-use Rattle.region.proofs.copies.write_out.Key.{name as #write-out}
-use Rattle.region.proofs.copies.write_out as f
-use Rattle.region.proofs.copies.write_out.Statement as stated
-use Rattle.region.proofs.copies.write_out.Code as code
-use Rattle.region.proofs.copies.write_out.Code.Mir as Mir
+use Rattle.region_copies.specs.Copies.{writtenOut}
+use Rattle.region_copies.proofs.Arrays.{cell-row, row-cell}
+use Rattle.region_copies.proofs.Copied.{no-point, copied, length-copied, all-out}
+use Rattle.region_copies.proofs.Counted.{one-more, next-fits, start-fits, tyAt, Turn, counted}
+use Rattle.region_copies.proofs.lesser as lesser
+use Rattle.region_copies.proofs.lesser.Symbol as lesser-def
+use Rattle.region_copies.proofs.lesser.Symbol.{name as #lesser}
+use Rattle.region_copies.proofs.lesser.Met as lesser-thm
+use Rattle.region_copies.proofs.write_out.Key.{name as #write-out}
+use Rattle.region_copies.proofs.write_out as f
+use Rattle.region_copies.proofs.write_out.Statement as stated
+use Rattle.region_copies.proofs.write_out.Code as code
+use Rattle.region_copies.proofs.write_out.Code.Mir as Mir
 
 abbrev Points : RattleType
 Points = Array R.the-row 256
@@ -390,7 +390,7 @@ module _ {M : Type 1} (𝓤 : URA M) (H : Heap 𝓤) (A : Atoms 𝓤) (W : Given
 pub write-out-spec : {M : Type 1} → stated.statement M
 unfolding code.routine tablesOf
 write-out-spec 𝓤 H 𝓜 𝓖 𝓡 =
-    let lessening = cited 𝓤 H (Lesser 𝓤 H (𝓖 .A) (𝓜 .mem) (𝓡 .run)) 𝓜 𝓡 code.env #lesser lesser-def.routine code.calls-region·copies·lesser
+    let lessening = cited 𝓤 H (Lesser 𝓤 H (𝓖 .A) (𝓜 .mem) (𝓡 .run)) 𝓜 𝓡 code.env #lesser lesser-def.routine code.calls-region-copies·lesser
     (lesser-thm.met 𝓤 H 𝓜 𝓖 𝓡) in
     entered 𝓤 H (tripleOf 𝓤 H (𝓖 .A) f.signature (f.spec 𝓤 H (𝓖 .A) (𝓜 .mem) (𝓡 .run)))
     (tables 𝓤 H 𝓜 𝓡 code.env .C) (tables 𝓤 H 𝓜 𝓡 code.env .Λ) #write-out code.function (code.unfolded 𝓤 H 𝓜 𝓡)
