@@ -33,10 +33,10 @@ use Rattle.region_work.specs.declared.region.RegionAnswer.{RegionAnswer}
 use Rattle.region_work.specs.Region.{givenRegion}
 use Rattle.region_work.proofs.region.RegionAnswer as E
 use Rattle.region_work.proofs.region.RegionAnswer.Laws as E′
-use Rattle.exports_region.specs.Regions.{originOf, boxOf}
-use Rattle.exports_region.proofs.answers.put_origin as origin
-use Rattle.exports_region.proofs.answers.put_box as caption
-use Rattle.exports_region.proofs.answers.status as number
+use Rattle.region_border.specs.Regions.{originOf, boxOf}
+use Rattle.region_border.proofs.put_origin as origin
+use Rattle.region_border.proofs.put_box as caption
+use Rattle.region_border.proofs.status as number
 
 -- ---- the contracts
 module _ {M : Type 1} (𝓤 : URA M) (H : Heap 𝓤) (A : Atoms 𝓤) (at-mem : Memory → SProp 𝓤) (run : Routine → Fun 𝓤) where

@@ -2,21 +2,19 @@
 // crate exports_tables. Crate exports has the calls on a set; these go into the same library, and what is said there of pointers
 // and lengths holds here too. A position, a point and a box are the structs that bindings/a5.h has as a5_position, a5_point and
 // a5_box.
-pub mod answers;
-
-use crate::answers::put_box;
-use crate::answers::put_origin;
-use crate::answers::status;
 use border::rows::rows;
 use caption_box::CaptionBox;
 use coordinates::coords::Face;
 use coordinates::lonlat::LonLat;
+use region_border::put_box;
+use region_border::put_origin;
+use region_border::status;
 ghost use mathlib.Core.Path.{_≡_};
 ghost use Rattle.arithmetic.specs.Arith.{ieee};
 ghost use Rattle.origin.specs.Origins.{ORIGINS};
 ghost use Rattle.set.specs.Outcome.{lent};
 ghost use Rattle.region_work.specs.Region.{regionOn};
-ghost use Rattle.exports_region.specs.Regions.{returned, inC, regionWith};
+ghost use Rattle.region_border.specs.Regions.{returned, inC, regionWith};
 
 // A region: its points go to points, its origin to origin, and its box to caption.
 #[no_mangle]

@@ -64,19 +64,19 @@ use Rattle.region.proofs.region as region
 use Rattle.region.proofs.region.Symbol as region-def
 use Rattle.region.proofs.region.Symbol.{name as #region}
 use Rattle.region.proofs.region.Met as region-thm
-use Rattle.exports_region.specs.Regions.{returned, inC}
-use Rattle.exports_region.proofs.Told.{told}
+use Rattle.region_border.specs.Regions.{returned, inC}
+use Rattle.region_border.proofs.Told.{told}
 use Rattle.exports_region.proofs.Calls.{PuttingOrigin, PuttingBox, Numbering, to-origin, goes-origin, OriginLast, OriginEnsured, OriginLeft, OriginPut}
 use Rattle.exports_region.proofs.Calls.{to-box, goes-box, BoxLast, BoxEnsured, BoxLeft, BoxPut, to-number, goes-number, Numbered, number-gives}
-use Rattle.exports_region.proofs.answers.put_origin.Symbol as origin-def
-use Rattle.exports_region.proofs.answers.put_origin.Symbol.{name as #put-origin}
-use Rattle.exports_region.proofs.answers.put_origin.Met as origin-thm
-use Rattle.exports_region.proofs.answers.put_box.Symbol as box-def
-use Rattle.exports_region.proofs.answers.put_box.Symbol.{name as #put-box}
-use Rattle.exports_region.proofs.answers.put_box.Met as box-thm
-use Rattle.exports_region.proofs.answers.status.Symbol as number-def
-use Rattle.exports_region.proofs.answers.status.Symbol.{name as #status}
-use Rattle.exports_region.proofs.answers.status.Met as number-thm
+use Rattle.region_border.proofs.put_origin.Symbol as origin-def
+use Rattle.region_border.proofs.put_origin.Symbol.{name as #put-origin}
+use Rattle.region_border.proofs.put_origin.Met as origin-thm
+use Rattle.region_border.proofs.put_box.Symbol as box-def
+use Rattle.region_border.proofs.put_box.Symbol.{name as #put-box}
+use Rattle.region_border.proofs.put_box.Met as box-thm
+use Rattle.region_border.proofs.status.Symbol as number-def
+use Rattle.region_border.proofs.status.Symbol.{name as #status}
+use Rattle.region_border.proofs.status.Met as number-thm
 use Rattle.exports_region.proofs.a5_region.Key.{name as #a5-region}
 use Rattle.exports_region.proofs.a5_region as f
 use Rattle.exports_region.proofs.a5_region.Statement as stated
@@ -445,11 +445,11 @@ a5-region-spec 𝓤 H 𝓜 𝓖 𝓡 =
     let calling = cited 𝓤 H (Calling 𝓤 H (𝓖 .A) (𝓜 .mem) (𝓡 .run)) 𝓜 𝓡 code.env #region region-def.routine code.calls-region·region
     (region-thm.met 𝓤 H 𝓜 𝓖 𝓡) in
     let putting-origin = cited 𝓤 H (PuttingOrigin 𝓤 H (𝓖 .A) (𝓜 .mem) (𝓡 .run)) 𝓜 𝓡 code.env #put-origin origin-def.routine
-    code.calls-exports-region·answers·put-origin
+    code.calls-region-border·put-origin
     (origin-thm.met 𝓤 H 𝓜 𝓖 𝓡) in
-    let putting-box = cited 𝓤 H (PuttingBox 𝓤 H (𝓖 .A) (𝓜 .mem) (𝓡 .run)) 𝓜 𝓡 code.env #put-box box-def.routine code.calls-exports-region·answers·put-box
+    let putting-box = cited 𝓤 H (PuttingBox 𝓤 H (𝓖 .A) (𝓜 .mem) (𝓡 .run)) 𝓜 𝓡 code.env #put-box box-def.routine code.calls-region-border·put-box
     (box-thm.met 𝓤 H 𝓜 𝓖 𝓡) in
-    let numbering = cited 𝓤 H (Numbering 𝓤 H (𝓖 .A) (𝓜 .mem) (𝓡 .run)) 𝓜 𝓡 code.env #status number-def.routine code.calls-exports-region·answers·status
+    let numbering = cited 𝓤 H (Numbering 𝓤 H (𝓖 .A) (𝓜 .mem) (𝓡 .run)) 𝓜 𝓡 code.env #status number-def.routine code.calls-region-border·status
     (number-thm.met 𝓤 H 𝓜 𝓖 𝓡) in
     entered 𝓤 H (tripleOf 𝓤 H (𝓖 .A) f.signature (f.spec 𝓤 H (𝓖 .A) (𝓜 .mem) (𝓡 .run)))
     (tables 𝓤 H 𝓜 𝓡 code.env .C) (tables 𝓤 H 𝓜 𝓡 code.env .Λ) #a5-region code.function (code.unfolded 𝓤 H 𝓜 𝓡)

@@ -19,7 +19,7 @@ use Rattle.border.specs.Returns.{written}
 use Rattle.caption_box.specs.declared.CaptionBox.{CaptionBox}
 use Rattle.region_work.specs.declared.region.Region.{Region}
 use Rattle.region_work.specs.Region.{RegionCalled, regionCalled, regionOn}
-use Rattle.exports_region.specs.Regions.{isAnswered, originOf, boxOf, returned, inC, regionWith}
+use Rattle.region_border.specs.Regions.{isAnswered, originOf, boxOf, returned, inC, regionWith}
 
 pub answered-box : (g : Given Region) (fresh before : CaptionBox) → isAnswered g ≡ true → written boxOf g fresh ≡ written boxOf g before
 answered-box (answered r) fresh before e = refl

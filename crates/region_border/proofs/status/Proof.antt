@@ -4,8 +4,8 @@ use mathlib.Core.Path.{sym, _∙_, ap}
 use Rattle.answer.specs.Given.{status}
 use Rattle.region_work.specs.declared.region.RegionAnswer.{RegionAnswer}
 use Rattle.region_work.specs.Region.{givenRegion}
-use Rattle.exports_region.proofs.answers.status.Statement.{statement}
-use Rattle.exports_region.proofs.answers.status.Tie as tie
+use Rattle.region_border.proofs.status.Statement.{statement}
+use Rattle.region_border.proofs.status.Tie as tie
 
 returns : tie.Need-returns
 returns c = ap (λ (g : RegionAnswer). status (givenRegion g)) (sym (c .enum-told .given .1))

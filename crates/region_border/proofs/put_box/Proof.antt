@@ -54,22 +54,22 @@ use Rattle.region_work.specs.declared.region.RegionAnswer.{RegionAnswer}
 use Rattle.region_work.specs.Region.{givenRegion}
 use Rattle.region_work.proofs.region.RegionAnswer as E
 use Rattle.region_work.proofs.region.RegionAnswer.Laws as E′
-use Rattle.exports_region.specs.Regions.{isAnswered, boxOf}
+use Rattle.region_border.specs.Regions.{isAnswered, boxOf}
 use Rattle.region_copies.proofs.Counted.{tyAt}
-use Rattle.exports_region.proofs.Told.{answered-box, refused-box}
-use Rattle.exports_region.proofs.answers.is_answered as test
-use Rattle.exports_region.proofs.answers.is_answered.Symbol as test-def
-use Rattle.exports_region.proofs.answers.is_answered.Symbol.{name as #is-answered}
-use Rattle.exports_region.proofs.answers.is_answered.Met as test-thm
-use Rattle.exports_region.proofs.answers.box_in as box-in
-use Rattle.exports_region.proofs.answers.box_in.Symbol as box-def
-use Rattle.exports_region.proofs.answers.box_in.Symbol.{name as #box-in}
-use Rattle.exports_region.proofs.answers.box_in.Met as box-thm
-use Rattle.exports_region.proofs.answers.put_box.Key.{name as #put-box}
-use Rattle.exports_region.proofs.answers.put_box as f
-use Rattle.exports_region.proofs.answers.put_box.Statement as stated
-use Rattle.exports_region.proofs.answers.put_box.Code as code
-use Rattle.exports_region.proofs.answers.put_box.Code.Mir as Mir
+use Rattle.region_border.proofs.Told.{answered-box, refused-box}
+use Rattle.region_border.proofs.is_answered as test
+use Rattle.region_border.proofs.is_answered.Symbol as test-def
+use Rattle.region_border.proofs.is_answered.Symbol.{name as #is-answered}
+use Rattle.region_border.proofs.is_answered.Met as test-thm
+use Rattle.region_border.proofs.box_in as box-in
+use Rattle.region_border.proofs.box_in.Symbol as box-def
+use Rattle.region_border.proofs.box_in.Symbol.{name as #box-in}
+use Rattle.region_border.proofs.box_in.Met as box-thm
+use Rattle.region_border.proofs.put_box.Key.{name as #put-box}
+use Rattle.region_border.proofs.put_box as f
+use Rattle.region_border.proofs.put_box.Statement as stated
+use Rattle.region_border.proofs.put_box.Code as code
+use Rattle.region_border.proofs.put_box.Code.Mir as Mir
 
 abbrev stayed : Stays (f.ended .signature .params) (f.ended .kept)
 stayed = (stay-none (λ _. E.the-row) yes, (stay-ref (0 ∷ []) tt (plain (λ _. B.the-row)), tt))
@@ -232,9 +232,9 @@ module _ {M : Type 1} (𝓤 : URA M) (H : Heap 𝓤) (A : Atoms 𝓤) (W : Given
 pub put-box-spec : {M : Type 1} → stated.statement M
 unfolding code.routine tablesOf
 put-box-spec 𝓤 H 𝓜 𝓖 𝓡 =
-    let testing = cited 𝓤 H (Testing 𝓤 H (𝓖 .A) (𝓜 .mem) (𝓡 .run)) 𝓜 𝓡 code.env #is-answered test-def.routine code.calls-exports-region·answers·is-answered
+    let testing = cited 𝓤 H (Testing 𝓤 H (𝓖 .A) (𝓜 .mem) (𝓡 .run)) 𝓜 𝓡 code.env #is-answered test-def.routine code.calls-region-border·is-answered
     (test-thm.met 𝓤 H 𝓜 𝓖 𝓡) in
-    let boxing = cited 𝓤 H (Boxing 𝓤 H (𝓖 .A) (𝓜 .mem) (𝓡 .run)) 𝓜 𝓡 code.env #box-in box-def.routine code.calls-exports-region·answers·box-in
+    let boxing = cited 𝓤 H (Boxing 𝓤 H (𝓖 .A) (𝓜 .mem) (𝓡 .run)) 𝓜 𝓡 code.env #box-in box-def.routine code.calls-region-border·box-in
     (box-thm.met 𝓤 H 𝓜 𝓖 𝓡) in
     entered 𝓤 H (tripleOf 𝓤 H (𝓖 .A) f.signature (f.spec 𝓤 H (𝓖 .A) (𝓜 .mem) (𝓡 .run)))
     (tables 𝓤 H 𝓜 𝓡 code.env .C) (tables 𝓤 H 𝓜 𝓡 code.env .Λ) #put-box code.function (code.unfolded 𝓤 H 𝓜 𝓡)

@@ -5,9 +5,9 @@ use Rattle.border.specs.Returns.{written}
 use Rattle.caption_box.specs.Sides.{newBox}
 use Rattle.region_work.specs.declared.region.RegionAnswer.{RegionAnswer}
 use Rattle.region_work.specs.Region.{givenRegion}
-use Rattle.exports_region.specs.Regions.{boxOf}
-use Rattle.exports_region.proofs.answers.box_in.Statement.{statement}
-use Rattle.exports_region.proofs.answers.box_in.Tie as tie
+use Rattle.region_border.specs.Regions.{boxOf}
+use Rattle.region_border.proofs.box_in.Statement.{statement}
+use Rattle.region_border.proofs.box_in.Tie as tie
 
 returns : tie.Need-returns
 returns c = ap (λ (g : RegionAnswer). written boxOf (givenRegion g) newBox) (sym (c .before .before .given .given .1))

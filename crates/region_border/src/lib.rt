@@ -1,4 +1,5 @@
-// A region's answer as C is told of it: a number, and the origin and the box, which are written where it answered.
+// A region's answer as C is told of it: a number, and the origin and the box, which are written where it answered. Crate
+// exports_region has the C functions.
 use caption_box::CaptionBox;
 use region_work::region::RegionAnswer;
 ghost use mathlib.Core.Path.{_≡_};
@@ -6,7 +7,7 @@ ghost use Rattle.answer.specs.Given.{status};
 ghost use Rattle.border.specs.Returns.{written};
 ghost use Rattle.caption_box.specs.Sides.{newBox};
 ghost use Rattle.region_work.specs.Region.{givenRegion};
-ghost use Rattle.exports_region.specs.Regions.{isAnswered, originOf, boxOf};
+ghost use Rattle.region_border.specs.Regions.{isAnswered, originOf, boxOf};
 
 // 0 for an answer, and otherwise the number of the refusal.
 pub fn status(given: RegionAnswer) -> u8

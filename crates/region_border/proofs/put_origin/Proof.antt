@@ -5,9 +5,9 @@ use denote.Ref.{now}
 use Rattle.border.specs.Returns.{written}
 use Rattle.region_work.specs.declared.region.RegionAnswer.{RegionAnswer}
 use Rattle.region_work.specs.Region.{givenRegion}
-use Rattle.exports_region.specs.Regions.{originOf}
-use Rattle.exports_region.proofs.answers.put_origin.Statement.{statement}
-use Rattle.exports_region.proofs.answers.put_origin.Tie as tie
+use Rattle.region_border.specs.Regions.{originOf}
+use Rattle.region_border.proofs.put_origin.Statement.{statement}
+use Rattle.region_border.proofs.put_origin.Tie as tie
 
 returns : tie.Need-returns
 returns c =

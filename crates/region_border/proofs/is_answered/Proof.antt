@@ -3,9 +3,9 @@ use borrow.Author.Needs.{needs}
 use mathlib.Core.Path.{sym, ap}
 use Rattle.region_work.specs.declared.region.RegionAnswer.{RegionAnswer}
 use Rattle.region_work.specs.Region.{givenRegion}
-use Rattle.exports_region.specs.Regions.{isAnswered}
-use Rattle.exports_region.proofs.answers.is_answered.Statement.{statement}
-use Rattle.exports_region.proofs.answers.is_answered.Tie as tie
+use Rattle.region_border.specs.Regions.{isAnswered}
+use Rattle.region_border.proofs.is_answered.Statement.{statement}
+use Rattle.region_border.proofs.is_answered.Tie as tie
 
 returns : tie.Need-returns
 returns c = ap (λ (g : RegionAnswer). isAnswered (givenRegion g)) (sym (c .enum-told .given .1))
