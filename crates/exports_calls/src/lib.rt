@@ -1,22 +1,17 @@
-// Forward, inverse, place and unplace on a set as C functions. What crate exports says of pointers, lengths and answers holds
-// here too.
-use coordinates::base::Degrees;
+// Forward and inverse on a set as C functions. What crate exports says of pointers, lengths and answers holds here too.
 use coordinates::base::Radians;
 use coordinates::conversions::FaceAnswer;
-use coordinates::conversions::LonLatAnswer;
 use coordinates::conversions::SphericalAnswer;
 use coordinates::coords::Face;
-use coordinates::lonlat::LonLat;
 use coordinates::spherical::Spherical;
 use coordinates::vec2::Vec2;
-use dodecahedron::place::PlaceAnswer;
 ghost use Rattle.arithmetic.specs.Arith.{ieee};
 ghost use Rattle.coordinates.specs.CoordinateTransforms.{face};
 ghost use Rattle.origin.specs.Origins.{ORIGINS};
 ghost use Rattle.set.specs.Outcome.{lent};
-ghost use Rattle.dodecahedron.specs.Calls.{forwardOn, inverseOn, placeOn, unplaceOn};
-ghost use Rattle.border.specs.Returns.{ReturnsOn, contents, contentsOf};
-ghost use Rattle.border.specs.Calls.{lonLat, spherical, angles, degrees, point, idAndPoint};
+ghost use Rattle.dodecahedron.specs.Calls.{forwardOn, inverseOn};
+ghost use Rattle.border.specs.Returns.{ReturnsOn, contents};
+ghost use Rattle.border.specs.Calls.{spherical, angles, point};
 
 // Forward: the face point, x and y, of a position, in radians, on the face of an origin.
 #[no_mangle]
@@ -68,59 +63,5 @@ pub extern "C" fn a5_inverse(
             0
         }
         SphericalAnswer::Refused(n) => answer::number(n),
-    }
-}
-
-// Place: the number of the nearest origin, and the face point on its face, of a position in degrees.
-#[no_mangle]
-pub extern "C" fn a5_place(
-    frame: &[f64],
-    face_store: &mut [f64],
-    sphere_store: &mut [f64],
-    longitude: f64,
-    latitude: f64,
-    id: &mut u8,
-    to: &mut [f64; 2],
-) -> u8
-    ensures { λ r. ⌜ ReturnsOn (lent frame «face_store» «sphere_store») r (contentsOf id to) idAndPoint
-        (λ s. placeOn ieee ORIGINS s (lonLat longitude latitude)) ⌝ }
-{
-    let position = LonLat {
-        longitude: Degrees(longitude),
-        latitude: Degrees(latitude),
-    };
-    let given = calls::place(frame, face_store, sphere_store, position);
-    match given {
-        PlaceAnswer::Answered(p) => {
-            *id = p.origin;
-            *to = [p.face.0.x, p.face.0.y];
-            0
-        }
-        PlaceAnswer::Refused(n) => answer::number(n),
-    }
-}
-
-// Unplace: longitude and latitude, in degrees, of a face point on the face of an origin.
-#[no_mangle]
-pub extern "C" fn a5_unplace(
-    frame: &[f64],
-    face_store: &mut [f64],
-    sphere_store: &mut [f64],
-    x: f64,
-    y: f64,
-    origin: u8,
-    to: &mut [f64; 2],
-) -> u8
-    ensures { λ r. ⌜ ReturnsOn (lent frame «face_store» «sphere_store») r (contents to) degrees
-        (λ s. unplaceOn ieee ORIGINS s (face x y) origin) ⌝ }
-{
-    let point = Face(Vec2 { x, y });
-    let given = calls::unplace(frame, face_store, sphere_store, point, origin);
-    match given {
-        LonLatAnswer::Answered(l) => {
-            *to = [l.longitude.0, l.latitude.0];
-            0
-        }
-        LonLatAnswer::Refused(n) => answer::number(n),
     }
 }

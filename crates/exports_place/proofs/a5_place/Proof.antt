@@ -3,8 +3,8 @@ use mathlib.Core.Path.{refl, sym, ap, _∙_}
 use borrow.Author.Needs.{needs}
 use Rattle.dodecahedron.specs.Place.{givenPlace}
 use Rattle.border.proofs.Returns.{returns-answer, returns-refusal}
-use Rattle.exports_calls.proofs.a5_place.Statement.{statement}
-use Rattle.exports_calls.proofs.a5_place.Tie as tie
+use Rattle.exports_place.proofs.a5_place.Statement.{statement}
+use Rattle.exports_place.proofs.a5_place.Tie as tie
 
 returns : tie.Need-returns
 returns c =

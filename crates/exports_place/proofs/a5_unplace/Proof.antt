@@ -3,8 +3,8 @@ use mathlib.Core.Path.{refl, sym, ap, _∙_}
 use borrow.Author.Needs.{needs}
 use Rattle.coordinates.specs.Conversions.{givenLonLat}
 use Rattle.border.proofs.Returns.{returns-answer, returns-refusal}
-use Rattle.exports_calls.proofs.a5_unplace.Statement.{statement}
-use Rattle.exports_calls.proofs.a5_unplace.Tie as tie
+use Rattle.exports_place.proofs.a5_unplace.Statement.{statement}
+use Rattle.exports_place.proofs.a5_unplace.Tie as tie
 
 returns : tie.Need-returns
 returns c =
