@@ -6,8 +6,6 @@
 // numbers is lent as a reference to an array of two, in C a pointer: it has no length to be wrong.
 // The caller sees to it that a pointer is not null, that so many numbers stand there, and that no
 // two that are lent overlap.
-pub mod slots;
-
 use coordinates::base::Degrees;
 use coordinates::base::Radians;
 use coordinates::conversions::LonLatAnswer;

@@ -1,9 +1,9 @@
--- `slots::coordinates` meets its contract. Assumes nothing.
+-- `coordinates` meets its contract. Assumes nothing.
 use mathlib.Core.Path.{refl}
 use native.Mathlib.Omega.{arith}
 use borrow.Author.Needs.{needs}
-use Rattle.exports.proofs.slots.coordinates.Statement.{statement}
-use Rattle.exports.proofs.slots.coordinates.Tie as tie
+use Rattle.exports_show.proofs.coordinates.Statement.{statement}
+use Rattle.exports_show.proofs.coordinates.Tie as tie
 
 mul-t4 : tie.Need-mul-t4
 mul-t4 c = omega (arith, rw (c .enum-told .given .1) at (c .before .before .pre))

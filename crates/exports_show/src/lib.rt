@@ -1,4 +1,5 @@
-// Show and its companion as C functions. Show's part is an offset and a length in the store named.
+// Show and its companion as C functions. Show's part is an offset and a length in the store named. What crate exports says of
+// pointers, lengths and answers holds here too.
 use set::sizes::FACE_COORDINATES;
 use set::sizes::FACE_WIDTH;
 use set::sizes::SPHERE_COORDINATES;
@@ -9,7 +10,7 @@ ghost use mathlib.Core.Path.{_≡_};
 ghost use Prim.Native.Nat.{_<_};
 ghost use Rattle.show.specs.Show.{slotGiven, slotsIn};
 ghost use Rattle.border.specs.Returns.{Returns, contents};
-ghost use Rattle.exports.specs.Slots.{storeNamed, coordinatesAt, mark, part as Slots·part};
+ghost use Rattle.exports_show.specs.Slots.{storeNamed, coordinatesAt, mark, part as Slots·part};
 
 // 0 names the face store and every other number the sphere store, as C reads a truth value:
 // document 01 has no refusal for a kind that is neither.

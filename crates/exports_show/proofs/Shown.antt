@@ -11,7 +11,7 @@ use Rattle.stores.specs.Slots.{run}
 use Rattle.show.specs.Show.{named, slotGiven, partShown, placeIn, placeShown}
 use Rattle.show.specs.declared.StoreKind.{StoreKind}
 use Rattle.border.specs.Returns.{written}
-use Rattle.exports.specs.Slots as slots
+use Rattle.exports_show.specs.Slots as slots
 
 -- the numbers of a store that an offset and a length name
 abbrev numbersOf : List Float → List ℕ → List Float

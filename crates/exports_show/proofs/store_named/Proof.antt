@@ -1,9 +1,9 @@
--- `slots::store_named` meets its contract. Assumes nothing.
+-- `store_named` meets its contract. Assumes nothing.
 use mathlib.Core.Path.{refl}
 use borrow.Author.Tests.{eq-eqb, ne-eqb}
-use Rattle.exports.specs.Slots.{storeNamed}
-use Rattle.exports.proofs.slots.store_named.Statement.{statement}
-use Rattle.exports.proofs.slots.store_named.Tie as tie
+use Rattle.exports_show.specs.Slots.{storeNamed}
+use Rattle.exports_show.proofs.store_named.Statement.{statement}
+use Rattle.exports_show.proofs.store_named.Tie as tie
 
 returns : tie.Need-returns
 unfolding storeNamed
