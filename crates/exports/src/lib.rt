@@ -31,7 +31,7 @@ pub extern "C" fn a5_open(frame: &mut [f64], face_store: &mut [f64], sphere_stor
     ensures answer { λ r. ⌜ r ≡ status (openOn ieee ORIGINS (lent frame «face_store» «sphere_store» .entry) .answer) ⌝ }
     ensures left { λ _. ⌜ Becomes (lent frame «face_store» «sphere_store») (λ s. openOn ieee ORIGINS s .set) ⌝ }
 {
-    let given = set::open::open(frame, face_store, sphere_store);
+    let given = open_calls::open(frame, face_store, sphere_store);
     match given {
         OpenAnswer::Opened => 0,
         OpenAnswer::Refused(n) => answer::number(n),

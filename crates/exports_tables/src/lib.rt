@@ -32,7 +32,7 @@ pub extern "C" fn a5_open_with(
     if table.len() != 84 {
         return 20;
     }
-    let given = set::open::open_with(rows(table), frame, face_store, sphere_store);
+    let given = open_calls::open_with(rows(table), frame, face_store, sphere_store);
     match given {
         OpenAnswer::Opened => 0,
         OpenAnswer::Refused(n) => answer::number(n),

@@ -7,12 +7,12 @@ mod buffers;
 mod tables;
 
 use crate::buffers::FOREIGN;
+use open_calls::open;
 use replay::outcome::Outcome;
 use replay::record;
 use replay::record::Next;
 use replay::report;
 use replay::tally;
-use set::open::open;
 use set::sizes::FACE_STORE;
 use set::sizes::FRAME;
 use set::sizes::SPHERE_STORE;

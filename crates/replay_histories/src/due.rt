@@ -3,6 +3,8 @@
 use crate::stores::clear;
 use crate::stores::gather;
 use answer::bits;
+use open_calls::open;
+use open_calls::open_with;
 use replay::outcome::Outcome;
 use replay::outcome::refused;
 use replay_perform::Call;
@@ -10,8 +12,6 @@ use replay_perform::of_open;
 use replay_perform::perform;
 use replay_perform::whole;
 use replay_table_perform::perform_with;
-use set::open::open;
-use set::open::open_with;
 use set::sizes::FACE_COORDINATES;
 use set::sizes::FACE_SLOTS;
 use set::sizes::FACE_STORE;

@@ -15,11 +15,11 @@ mod table_lists;
 mod tables;
 mod vertices;
 
+use open_calls::open;
 use replay::record;
 use replay::record::Next;
 use replay::report;
 use replay::tally;
-use set::open::open;
 use set::sizes::FACE_STORE;
 use set::sizes::FRAME;
 use set::sizes::SPHERE_STORE;

@@ -5,6 +5,7 @@ use crate::arrays::blank;
 use crate::arrays::positions;
 use crate::arrays::put_results;
 use crate::set_up::TABLES_AT;
+use open_calls::open;
 use replay::outcome::Outcome;
 use replay::outcome::refused;
 use replay::record::word;
@@ -15,7 +16,6 @@ use replay_lend::lists::lend_with;
 use replay_sets::given::of_open;
 use replay_sets::places::NO_SUCH_PLACE;
 use replay_sets::tables::table;
-use set::open::open;
 ghost use Prim.Native.Nat.{_<_};
 
 // The numbers of the records of open, and of lists with a table; the others are lists without one.

@@ -1,7 +1,7 @@
 // What a record asks, on the buffers that are lent.
+use open_calls::open_with;
 use panel_step::step;
 use set::open::OpenAnswer;
-use set::open::open_with;
 use set::sizes::FACE_STORE;
 use set::sizes::FRAME;
 use set::sizes::SPHERE_STORE;

@@ -6,6 +6,7 @@ use crate::arrays::positions;
 use crate::arrays::put_box;
 use crate::arrays::put_points;
 use crate::set_up::TABLES_AT;
+use open_calls::open;
 use region_work::region::RegionAnswer;
 use replay::outcome::Outcome;
 use replay::outcome::refused;
@@ -18,7 +19,6 @@ use replay_lend::regions::lend_with;
 use replay_sets::given::of_open;
 use replay_sets::places::NO_SUCH_PLACE;
 use replay_sets::tables::table;
-use set::open::open;
 ghost use Prim.Native.Nat.{_<_};
 
 // The numbers of the records of open, and of regions with a table; the others are regions without one.

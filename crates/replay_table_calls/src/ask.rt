@@ -2,6 +2,7 @@
 use crate::lent::NEAREST;
 use nearest_calls::OriginAnswer;
 use nearest_calls::nearest_with;
+use open_calls::open_with;
 use replay::outcome::Outcome;
 use replay::outcome::refused;
 use replay_sets::given::of_face;
@@ -10,7 +11,6 @@ use replay_sets::given::of_open;
 use replay_sets::given::of_place;
 use replay_sets::given::of_spherical;
 use replay_sets::given::origin;
-use set::open::open_with;
 use table_calls::forward_with;
 use table_calls::inverse_with;
 use table_calls::place_with;

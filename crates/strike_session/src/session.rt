@@ -48,7 +48,7 @@ pub fn begin(
 ) -> Begun
     ensures { λ r. ⌜ Opens (lent frame «face_store» «sphere_store») (lentBytes out) r ⌝ }
 {
-    match set::open::open(frame, face_store, sphere_store) {
+    match open_calls::open(frame, face_store, sphere_store) {
         OpenAnswer::Opened => Begun {
             stage: Stage::Header,
             written: 0,

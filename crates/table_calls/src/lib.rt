@@ -1,5 +1,5 @@
 // Forward, inverse, place and unplace on a set, with a table of origins in place of the built-in one: its
-// numbers are tested by 21 and 22 right after 1, 2 and 3. Open with a table is `set::open::open_with`.
+// numbers are tested by 21 and 22 right after 1, 2 and 3. Open with a table is `open_calls::open_with`.
 use answer::Check;
 use call_ends::finish::finish_face;
 use call_ends::finish::finish_lon_lat;

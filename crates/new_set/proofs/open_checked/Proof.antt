@@ -1,4 +1,4 @@
--- `open::open_checked` meets its contract: it is refused for its rows, or opens. Assumes nothing.
+-- `open_checked` meets its contract: it is refused for its rows, or opens. Assumes nothing.
 use mathlib.Core.Path.{_≡_, sym, ap, _∙_}
 use mathlib.Core.List.{List}
 use Prim.Native.Nat.{ℕ}
@@ -8,12 +8,12 @@ use lib.Ieee.{Float}
 use Rattle.arithmetic.specs.Arith.{ieee}
 use Rattle.arithmetic.specs.Numbers.{0·0}
 use Rattle.crs.specs.Frame.{frameRows}
 use Rattle.set.proofs.Lengths.{Fits, with-passed}
 use Rattle.set.proofs.Overwrite.{front-fits, front-length, front-is}
 use Rattle.set.proofs.Opening.{open-rows, open-opened}
 use Rattle.set.specs.Outcome.{held}
-use Rattle.set.proofs.open.open_checked.Statement.{statement}
-use Rattle.set.proofs.open.open_checked.Tie as tie
+use Rattle.new_set.proofs.open_checked.Statement.{statement}
+use Rattle.new_set.proofs.open_checked.Tie as tie
 
 abbrev start : tie.After-rows → tie.Start
 start c =

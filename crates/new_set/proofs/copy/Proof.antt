@@ -1,4 +1,4 @@
--- `open::copy` meets its contract. The loop's invariant: the first i numbers are copied, the others as they were. The measure is
+-- `copy` meets its contract. The loop's invariant: the first i numbers are copied, the others as they were. The measure is
 -- what is left of the buffer. Assumes nothing.
 use mathlib.Core.Path.{_≡_, refl, _∙_}
 use Prim.Native.Nat.{_≤_, _-_, zero-le}
@@ -6,9 +6,9 @@ use native.Mathlib.Omega.{arith}
 use borrow.Author.Needs.{needs}
 use lib.ListN.{length, length-set}
 use lib.Ieee.{nan}
 use Rattle.set.proofs.Overwrite.{over, store, all-stored}
-use Rattle.set.proofs.open.copy.Statement.{statement}
-use Rattle.set.proofs.open.copy.Tie as tie
+use Rattle.new_set.proofs.copy.Statement.{statement}
+use Rattle.new_set.proofs.copy.Tie as tie
 
 abbrev Inv-loop : tie.InvT-loop
 Inv-loop to₀ from i₀ to i = (i ≤ length to₀) × (length to ≡ length to₀) × (to ≡ over from to₀ i)

@@ -1,11 +1,11 @@
--- `open::open_with` meets its contract. Assumes nothing.
+-- `open_with` meets its contract. Assumes nothing.
 use mathlib.Core.Path.{_≡_, sym, ap, _∙_}
 use borrow.Author.Needs.{needs}
 use Rattle.answer.specs.Answer.{givenCheck}
 use Rattle.arithmetic.specs.Arith.{ieee}
 use Rattle.set.proofs.Opening.{open-refused}
-use Rattle.set.proofs.open.open_with.Statement.{statement}
-use Rattle.set.proofs.open.open_with.Tie as tie
+use Rattle.open_calls.proofs.open_with.Statement.{statement}
+use Rattle.open_calls.proofs.open_with.Tie as tie
 
 returns : tie.Need-returns
 returns c =

@@ -1,4 +1,4 @@
--- `open::clear` meets its contract. The loop's invariant: the first i numbers are +0.0, the others as they were. The measure is
+-- `clear` meets its contract. The loop's invariant: the first i numbers are +0.0, the others as they were. The measure is
 -- what is left of the store. Assumes nothing.
 use mathlib.Core.Path.{_≡_, refl, _∙_}
 use Prim.Native.Nat.{_≤_, _-_, zero-le}
@@ -7,9 +7,9 @@ use borrow.Author.Needs.{needs}
 use lib.ListN.{length, replicate, length-set, length-replicate}
 use lib.Ieee.{ofBits}
 use Rattle.arithmetic.specs.Numbers.{0·0}
 use Rattle.set.proofs.Overwrite.{over, store-same, all-stored}
-use Rattle.set.proofs.open.clear.Statement.{statement}
-use Rattle.set.proofs.open.clear.Tie as tie
+use Rattle.new_set.proofs.clear.Statement.{statement}
+use Rattle.new_set.proofs.clear.Tie as tie
 
 abbrev Inv-loop : tie.InvT-loop
 Inv-loop store₀ i₀ store i = (i ≤ length store₀) × (length store ≡ length store₀) × (store ≡ over (replicate (length store₀) 0·0) store₀ i)

@@ -1,12 +1,12 @@
--- `open::open` meets its contract: the built-in table passes its checks, so that those of the set are all. Assumes nothing.
+-- `open` meets its contract: the built-in table passes its checks, so that those of the set are all. Assumes nothing.
 use mathlib.Core.Path.{_≡_, sym, ap, _∙_}
 use borrow.Author.Needs.{needs}
 use Rattle.answer.specs.Answer.{givenCheck}
 use Rattle.arithmetic.specs.Arith.{ieee}
 use Rattle.origin.specs.Origins.{ORIGINS}
 use Rattle.set.proofs.Opening.{open-refused, built-in-check}
-use Rattle.set.proofs.open.open.Statement.{statement}
-use Rattle.set.proofs.open.open.Tie as tie
+use Rattle.open_calls.proofs.open.Statement.{statement}
+use Rattle.open_calls.proofs.open.Tie as tie
 
 returns : tie.Need-returns
 returns c =
