@@ -9,7 +9,7 @@ use Rattle.decimal.specs.Decimal.{digit, decimal}
 use Rattle.decimal.proofs.Digits.{by-digits}
 use Rattle.sheet_lines.specs.Page.{SPACE, NEWLINE, spaces, line, rightAligned, numbered, linesOf, pageOf}
 use Rattle.sheet.specs.Claims.{columnsAt}
-use Rattle.sheet_lines.proofs.Number.{length-aligned}
+use Rattle.sheet_columns.proofs.Number.{length-aligned}
 use Rattle.sheet_lines.proofs.Lines.{sixty, lines-long, first-long}
 
 -- ---- texts with no newline

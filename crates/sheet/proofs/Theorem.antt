@@ -20,7 +20,7 @@ use Rattle.sheet_lines.specs.Page.{TITLE, ALL, SPACE, NEWLINE, line, rightAlign
 use Rattle.sheet.specs.Sheet.{PAGE, sheetGiven, pageAfter, SheetOf}
 use Rattle.answer.specs.declared.Check.{Check}
 use Rattle.sheet.specs.Claims.{columnsAt, LaidOut, ReadsBack, EveryPage, SamePage, SameCounts, PrintsKept, EverySheet}
-use Rattle.sheet_lines.proofs.Number.{length-aligned, reads-aligned}
+use Rattle.sheet_columns.proofs.Number.{length-aligned, reads-aligned}
 use Rattle.sheet_lines.proofs.Lines.{each-line, row-at, first-long, all-lines}
 use Rattle.sheet.proofs.Columns.{Columns, line-columns, numbered-columns, number-prints, newline-of, column-of, number-of, left-of, byte-in, columns-in}
 

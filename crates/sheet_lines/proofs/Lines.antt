@@ -13,7 +13,7 @@ use lib.Seq.{length-take-le, take-at, drop-at, take-suc, take-all, getD-drop, dr
 use Rattle.decimal.specs.Decimal.{decimal}
 use Rattle.window.specs.EveryList.{sum}
 use Rattle.sheet_lines.specs.Page.{NEWLINE, SPACE, TITLE, ALL, spaces, line, rightAligned, numbered, row, blank, linesOf, pageOf}
-use Rattle.sheet_lines.proofs.Number.{length-aligned}
+use Rattle.sheet_columns.proofs.Number.{length-aligned}
 
 -- ---- a text written into a blank line from column 1 on, and ten bytes in columns 71 to 80
 pub filled : (left right : List ℕ) → length left ≤ 70 → length right ≡ 10 → putMid 70 10 (left ++ drop (length left) blank) right ≡ line left right

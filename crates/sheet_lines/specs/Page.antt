@@ -1,10 +1,11 @@
 -- Paper 13: the page as text. Definitions only.
-use Prim.Native.Nat.{ℕ, _+_, _-_}
+use Prim.Native.Nat.{ℕ, _-_}
 use mathlib.Core.List.{List, [], _∷_, _++_, flatten}
-use lib.ListN.{length, getD, take, drop, replicate}
-pub use Rattle.decimal.specs.Bytes.{SPACE, NEWLINE}
+use lib.ListN.{length, getD, take, replicate}
 use Rattle.decimal.specs.Decimal.{decimal}
 use Rattle.window.specs.EveryList.{sum}
+pub use Rattle.sheet_columns.specs.Line.{SPACE, NEWLINE, spaces, blank}
+unfoldable pub use Rattle.sheet_columns.specs.Line.{line, rightAligned}
 use Rattle.sheet_lines.specs.Letters.{A, C, L, M, N, O, R, S, T, U}
 
 -- ---- texts
@@ -17,18 +18,7 @@ TITLE = S ∷ T ∷ O ∷ R ∷ M ∷ SPACE ∷ C ∷ O ∷ U ∷ N ∷ T ∷ S 
 abbrev pub ALL : List ℕ
 ALL = A ∷ L ∷ L ∷ []
 
-abbrev pub spaces : ℕ → List ℕ
-spaces n = replicate n SPACE
-
 -- ---- a line
-
--- "80 columns .. each line ended by a newline": a text from column 1 on, a text up to column 80, and "spaces between"
-unfoldable pub line : List ℕ → List ℕ → List ℕ
-line left right = left ++ (spaces (80 - (length left + length right)) ++ (right ++ (NEWLINE ∷ [])))
-
--- "right-aligned" in w columns; of a longer text the last w bytes stand there
-unfoldable pub rightAligned : ℕ → List ℕ → List ℕ
-rightAligned w text = spaces (w - length text) ++ drop (length text - w) text
 
 -- a line with a number "in columns 71 to 80"
 abbrev pub numbered : List ℕ → ℕ → List ℕ
@@ -37,10 +27,6 @@ numbered left n = line left (rightAligned 10 (decimal n))
 -- the row of origin k: "in columns 1 to 2 and the window's count of each in columns 71 to 80, both right-aligned with spaces between"
 abbrev pub row : List ℕ → ℕ → List ℕ
 row counts k = numbered (rightAligned 2 (decimal k)) (getD counts k 0)
-
--- a line that "is spaces"
-abbrev pub blank : List ℕ
-blank = line [] []
 
 -- ---- the page
 

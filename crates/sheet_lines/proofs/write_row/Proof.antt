@@ -3,7 +3,7 @@ use native.Mathlib.Omega.{arith}
 use borrow.Author.Needs.{needs}
 use Rattle.decimal.specs.Decimal.{decimal}
 use Rattle.sheet_lines.specs.Page.{rightAligned}
-use Rattle.sheet_lines.proofs.Number.{length-aligned}
+use Rattle.sheet_columns.proofs.Number.{length-aligned}
 use Rattle.sheet_lines.proofs.Lines.{with-origin, with-number}
 use Rattle.sheet_lines.proofs.write_row.Statement.{statement}
 use Rattle.sheet_lines.proofs.write_row.Tie as tie

@@ -12,7 +12,7 @@ use lib.ListN.{length, take, drop, set, length-append, length-drop, length-repli
 use lib.Seq.{drop-nil, drop-length, drop-append-le, set-split, drop-at, length-take-le}
 use Rattle.decimal.specs.Decimal.{digit, digitsWithin, decimal, worth, readOn, numberIn}
 use Rattle.decimal.proofs.Digits.{within, more, read-append}
-use Rattle.sheet_lines.specs.Page.{SPACE, spaces, rightAligned}
+use Rattle.sheet_columns.specs.Line.{SPACE, spaces, rightAligned}
 
 -- the last w columns of what is left of a number
 abbrev pub columnOf : ℕ → ℕ

@@ -1,4 +1,4 @@
--- `sheet::write_blank` meets its contract. The loop's invariant: the first i columns are spaces; its measure: how many columns are left.
+-- `write_blank` meets its contract. The loop's invariant: the first i columns are spaces; its measure: how many columns are left.
 -- Assumes nothing.
 use mathlib.Core.Path.{_≡_, refl, sym, ap, _∙_}
 use mathlib.Core.List.{List, [], _∷_, _++_}
@@ -8,10 +8,10 @@ use native.Mathlib.Omega.{arith}
 use borrow.Author.Needs.{needs}
 use lib.ListN.{length, take, drop, set, length-set, drop-of-length-le}
 use lib.Seq.{take-suc-set, set-split}
-use Rattle.sheet_lines.specs.Page.{NEWLINE, SPACE, spaces, line as Page·line, blank}
-use Rattle.sheet_lines.proofs.Number.{one-space}
-use Rattle.sheet_lines.proofs.write_blank.Statement.{statement}
-use Rattle.sheet_lines.proofs.write_blank.Tie as tie
+use Rattle.sheet_columns.specs.Line.{NEWLINE, SPACE, spaces, line as Line·line, blank}
+use Rattle.sheet_columns.proofs.Number.{one-space}
+use Rattle.sheet_columns.proofs.write_blank.Statement.{statement}
+use Rattle.sheet_columns.proofs.write_blank.Tie as tie
 
 abbrev Inv-loop : tie.InvT-loop
 Inv-loop line₀ i₀ line i = (i ≤ 80) × (length line ≡ 81) × (take i line ≡ spaces i)
@@ -23,7 +23,7 @@ space-more : (l : List ℕ) (i j : ℕ) → i < length l → take i l ≡ spaces
 space-more l i j h e s = rw s (take-suc-set l i SPACE h ∙ ap (λ (t : List ℕ). t ++ (SPACE ∷ [])) e ∙ one-space i)
 
 ended : (l : List ℕ) (i : ℕ) → i ≡ 80 → length l ≡ 81 → take i l ≡ spaces i → set l 80 NEWLINE ≡ blank
-unfolding Page·line
+unfolding Line·line
 ended l i s h e =
     let f : take 80 l ≡ spaces 80 = rw s at e in
     set-split l 80 NEWLINE (omega arith) ∙ ap (λ (t : List ℕ). t ++ (NEWLINE ∷ drop 81 l)) f

@@ -1,8 +1,8 @@
--- `sheet::column` meets its contract. Assumes nothing.
+-- `column` meets its contract. Assumes nothing.
 use borrow.Author.Needs.{needs}
 use borrow.Author.Tests.{eq-eqb, ne-eqb}
-use Rattle.sheet_lines.proofs.column.Statement.{statement}
-use Rattle.sheet_lines.proofs.column.Tie as tie
+use Rattle.sheet_columns.proofs.column.Statement.{statement}
+use Rattle.sheet_columns.proofs.column.Tie as tie
 
 returns : tie.Need-returns
 returns c = rw (eq-eqb _ _ (c .if1 .taken))

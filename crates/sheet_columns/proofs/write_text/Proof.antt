@@ -1,4 +1,4 @@
--- `sheet::write_text` meets its contract. The loop's invariant: the first i bytes of the text stand at the line's start; its measure: how
+-- `write_text` meets its contract. The loop's invariant: the first i bytes of the text stand at the line's start; its measure: how
 -- many bytes are left. Assumes nothing.
 use mathlib.Core.Path.{_≡_, refl, sym, ap, _∙_}
 use mathlib.Core.List.{List, _++_}
@@ -9,8 +9,8 @@ use native.Mathlib.Omega.{arith}
 use borrow.Author.Needs.{needs}
 use lib.ListN.{length, getD, take, drop, set}
 use lib.Seq.{take-all, paste, paste-suc, length-paste}
-use Rattle.sheet_lines.proofs.write_text.Statement.{statement}
-use Rattle.sheet_lines.proofs.write_text.Tie as tie
+use Rattle.sheet_columns.proofs.write_text.Statement.{statement}
+use Rattle.sheet_columns.proofs.write_text.Tie as tie
 
 abbrev Inv-loop : tie.InvT-loop
 Inv-loop line₀ text i₀ line i = (i ≤ length text) × (line ≡ paste line₀ 0 text i)

@@ -1,4 +1,4 @@
--- `sheet::write_number` meets its contract. The loop's invariant: the columns of what is left of the number, with those that stand behind them, are all
+-- `write_number` meets its contract. The loop's invariant: the columns of what is left of the number, with those that stand behind them, are all
 -- of its columns; its measure: how many columns are left. Assumes nothing.
 use mathlib.Core.Path.{_≡_, refl, sym, ap, _∙_}
 use mathlib.Core.List.{List, [], _∷_, _++_}
@@ -7,10 +7,10 @@ use native.Mathlib.Omega.{arith}
 use borrow.Author.Needs.{needs}
 use lib.ListN.{length, drop, set, length-set, drop-of-length-le}
 use Rattle.decimal.specs.Decimal.{digit, decimal}
-use Rattle.sheet_lines.specs.Page.{rightAligned}
-use Rattle.sheet_lines.proofs.Number.{columnsOf, number-aligned, column-more, drop-stored}
-use Rattle.sheet_lines.proofs.write_number.Statement.{statement}
-use Rattle.sheet_lines.proofs.write_number.Tie as tie
+use Rattle.sheet_columns.specs.Line.{rightAligned}
+use Rattle.sheet_columns.proofs.Number.{columnsOf, number-aligned, column-more, drop-stored}
+use Rattle.sheet_columns.proofs.write_number.Statement.{statement}
+use Rattle.sheet_columns.proofs.write_number.Tie as tie
 
 abbrev Inv-loop : tie.InvT-loop
 Inv-loop columns₀ n at₀ rest₀ columns at rest =
