@@ -1,7 +1,7 @@
 // How many were compared, and how many differ, by what was called.
 use replay::outcome::Outcome;
 use replay::outcome::agree;
-use replay_perform::Call;
+use replay_call::Call;
 ghost use Prim.Native.Nat.{_<_};
 
 // Where a call is counted: the names stand in this order. A refused one is counted seven places on.

@@ -6,9 +6,9 @@ use coordinates::lonlat::LonLat;
 use coordinates::spherical::Spherical;
 use coordinates::vec2::Vec2;
 use replay::pattern::value;
-use replay_perform::Call;
-use replay_perform::nearby::Nearby;
-use replay_perform::steps::Registers;
+use replay_call::Call;
+use replay_call::nearby::Nearby;
+use replay_call::steps::Registers;
 use show::StoreKind;
 
 // Marsaglia's xorshift of 64 bits.

@@ -5,7 +5,7 @@ use crate::draw::draw;
 use crate::due::expected;
 use open_calls::open;
 use replay::numbers::unlike;
-use replay_perform::Call;
+use replay_call::Call;
 use replay_perform::perform;
 use set::sizes::FACE_STORE;
 use set::sizes::FRAME;

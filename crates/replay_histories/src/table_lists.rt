@@ -7,7 +7,7 @@ use crate::due::expected_with;
 use crate::lists::alike;
 use crate::tables;
 use origin::origin::built_in;
-use replay_perform::Call;
+use replay_call::Call;
 use replay_table_perform::perform_with;
 use set::sizes::FACE_STORE;
 use set::sizes::FRAME;

@@ -4,7 +4,7 @@ use coordinates::base::Degrees;
 use coordinates::lonlat::LonLat;
 use place_list::PlaceResult;
 use replay::outcome::Outcome;
-use replay_lend::lists::MOST;
+use replay_lent::lists::MOST;
 
 // Two numbers a position, and four a result: refusal, origin, and the bits of x and y.
 pub const POSITIONS: usize = 2 * MOST;

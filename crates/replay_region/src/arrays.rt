@@ -7,7 +7,7 @@ use coordinates::lonlat::LonLat;
 use coordinates::vec2::Vec2;
 use replay::outcome::Outcome;
 use replay::outcome::refused;
-use replay_lend::regions::MOST;
+use replay_lent::regions::MOST;
 use replay_sets::places::NO_SUCH_PLACE;
 
 // Two numbers a position.

@@ -1,4 +1,4 @@
-// What a call comes to on a set with a table: crate `replay_perform`'s calls, as the calls with a table.
+// What a call comes to on a set with a table: crate `replay_call`'s calls, as the calls with a table.
 mod lists;
 mod regions;
 mod steps;
@@ -8,14 +8,14 @@ use crate::regions::outlined_with;
 use crate::steps::stepped_with;
 use open_calls::open_with;
 use replay::outcome::Outcome;
-use replay_perform::Call;
-use replay_perform::of_face;
-use replay_perform::of_lon_lat;
-use replay_perform::of_open;
-use replay_perform::of_part;
-use replay_perform::of_place;
-use replay_perform::of_spherical;
-use replay_perform::of_state;
+use replay_call::Call;
+use replay_call::of_face;
+use replay_call::of_lon_lat;
+use replay_call::of_open;
+use replay_call::of_part;
+use replay_call::of_place;
+use replay_call::of_spherical;
+use replay_call::of_state;
 use show::show;
 use show::slot_state;
 use table_calls::forward_with;
@@ -23,7 +23,7 @@ use table_calls::inverse_with;
 use table_calls::place_with;
 use table_calls::unplace_with;
 ghost use Rattle.set.specs.Outcome.{lent, Becomes};
-ghost use Rattle.replay_perform.specs.Performed.{performed};
+ghost use Rattle.replay_call.specs.Performed.{performed};
 
 // The call on a set, with a table, which open brings and every other call that takes one takes. It leaves the set as the
 // theorem about every list has it.

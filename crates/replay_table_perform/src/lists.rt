@@ -1,17 +1,17 @@
 // A list of positions near one, placed with a table.
 use replay::outcome::Outcome;
-use replay_lend::lists::lend_with;
-use replay_perform::lists::blank;
-use replay_perform::lists::of_listed;
-use replay_perform::nearby::Nearby;
-use replay_perform::nearby::for_list;
-use replay_perform::nearby::wide;
+use replay_call::lists::blank;
+use replay_call::lists::of_listed;
+use replay_call::nearby::Nearby;
+use replay_call::nearby::for_list;
+use replay_call::nearby::wide;
+use replay_lend_lists::lend_with;
 ghost use lib.ListN.{take};
 ghost use Rattle.arithmetic.specs.Arith.{ieee};
 ghost use Rattle.set.specs.Outcome.{lent, Becomes};
 ghost use Rattle.histories.specs.Lists.{lists};
-ghost use Rattle.replay_perform.specs.Made.{nearby};
-ghost use Rattle.replay_perform.specs.Left.{leaves};
+ghost use Rattle.replay_call.specs.Made.{nearby};
+ghost use Rattle.replay_call.specs.Left.{leaves};
 
 // The list, with its status and every result.
 pub(crate) fn listed_with(

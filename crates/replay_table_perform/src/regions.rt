@@ -1,17 +1,17 @@
 // A region of positions near one, with a table.
 use replay::outcome::Outcome;
-use replay_lend::regions::lend_with;
-use replay_perform::nearby::Nearby;
-use replay_perform::nearby::for_region;
-use replay_perform::nearby::wide;
-use replay_perform::regions::blank;
-use replay_perform::regions::of_outlined;
+use replay_call::nearby::Nearby;
+use replay_call::nearby::for_region;
+use replay_call::nearby::wide;
+use replay_call::regions::blank;
+use replay_call::regions::of_outlined;
+use replay_lend_regions::lend_with;
 ghost use lib.ListN.{take};
 ghost use Rattle.arithmetic.specs.Arith.{ieee};
 ghost use Rattle.set.specs.Outcome.{lent, Becomes};
 ghost use Rattle.histories.specs.Lists.{regions};
-ghost use Rattle.replay_perform.specs.Made.{nearby};
-ghost use Rattle.replay_perform.specs.Left.{leaves};
+ghost use Rattle.replay_call.specs.Made.{nearby};
+ghost use Rattle.replay_call.specs.Left.{leaves};
 
 // The region, with its answer and every point.
 pub(crate) fn outlined_with(

@@ -1,13 +1,13 @@
 // A step of the caption panel with a table, on a block that is made of a call's numbers.
 use replay::outcome::Outcome;
-use replay_perform::steps::Registers;
-use replay_perform::steps::block;
-use replay_perform::steps::of_block;
+use replay_call::steps::Registers;
+use replay_call::steps::block;
+use replay_call::steps::of_block;
 use table_panel::step_with;
 ghost use Rattle.set.specs.Outcome.{lent, Becomes};
 ghost use Rattle.histories.specs.Lists.{steps};
-ghost use Rattle.replay_perform.specs.Made.{blockOf};
-ghost use Rattle.replay_perform.specs.Left.{leaves};
+ghost use Rattle.replay_call.specs.Made.{blockOf};
+ghost use Rattle.replay_call.specs.Left.{leaves};
 
 // The step, and what it leaves of the block.
 pub(crate) fn stepped_with(

@@ -7,8 +7,8 @@ use Rattle.set.specs.Set.{setOf}
 use Rattle.dodecahedron.specs.Work.{usedOf}
 use Rattle.dodecahedron.specs.Calls.{forwardGiven, inverseGiven, placeGiven, unplaceGiven}
 use Rattle.histories.proofs.Left.{alone-left}
-use Rattle.replay_perform.specs.Performed.{performed}
-use Rattle.replay_perform.specs.declared.Call.{Call}
+use Rattle.replay_call.specs.Performed.{performed}
+use Rattle.replay_call.specs.declared.Call.{Call}
 use Rattle.replay_perform.proofs.perform.Statement.{statement}
 use Rattle.replay_perform.proofs.perform.Tie as tie
 

@@ -4,8 +4,8 @@ use native.Mathlib.Omega.{arith}
 use borrow.Author.Needs.{needs}
 use Rattle.origin.specs.Origins.{ORIGINS}
 use Rattle.set.specs.Set.{setOf}
-use Rattle.replay_lend.specs.Lists.{Left}
-use Rattle.replay_perform.proofs.Near.{listed-left}
+use Rattle.replay_lent.specs.Lists.{Left}
+use Rattle.replay_call.proofs.Near.{listed-left}
 use Rattle.replay_perform.proofs.lists.listed.Statement.{statement}
 use Rattle.replay_perform.proofs.lists.listed.Tie as tie
 

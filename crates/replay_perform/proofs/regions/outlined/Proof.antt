@@ -5,7 +5,7 @@ use borrow.Author.Needs.{needs}
 use Rattle.origin.specs.Origins.{ORIGINS}
 use Rattle.set.specs.Set.{setOf}
 use Rattle.region_work.specs.Region.{RegionCalled}
-use Rattle.replay_perform.proofs.Near.{outlined-left}
+use Rattle.replay_call.proofs.Near.{outlined-left}
 use Rattle.replay_perform.proofs.regions.outlined.Statement.{statement}
 use Rattle.replay_perform.proofs.regions.outlined.Tie as tie
 

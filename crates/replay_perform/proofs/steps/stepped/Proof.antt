@@ -7,7 +7,7 @@ use Rattle.origin.specs.Origins.{ORIGINS}
 use Rattle.set.specs.Set.{setOf}
 use Rattle.histories.specs.Lists.{steps}
 use Rattle.histories.proofs.Left.{step-left}
-use Rattle.replay_perform.specs.Left.{leaves}
+use Rattle.replay_call.specs.Left.{leaves}
 use Rattle.replay_perform.proofs.steps.stepped.Statement.{statement}
 use Rattle.replay_perform.proofs.steps.stepped.Tie as tie
 

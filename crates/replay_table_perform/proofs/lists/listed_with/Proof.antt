@@ -3,8 +3,8 @@ use mathlib.Core.Path.{ap, _∙_}
 use native.Mathlib.Omega.{arith}
 use borrow.Author.Needs.{needs}
 use Rattle.set.specs.Set.{setOf}
-use Rattle.replay_lend.specs.Lists.{Left}
-use Rattle.replay_perform.proofs.Near.{listed-left}
+use Rattle.replay_lent.specs.Lists.{Left}
+use Rattle.replay_call.proofs.Near.{listed-left}
 use Rattle.replay_table_perform.proofs.lists.listed_with.Statement.{statement}
 use Rattle.replay_table_perform.proofs.lists.listed_with.Tie as tie
 

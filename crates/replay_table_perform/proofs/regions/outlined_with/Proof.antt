@@ -4,7 +4,7 @@ use native.Mathlib.Omega.{arith}
 use borrow.Author.Needs.{needs}
 use Rattle.set.specs.Set.{setOf}
 use Rattle.region_work.specs.Region.{RegionCalled}
-use Rattle.replay_perform.proofs.Near.{outlined-left}
+use Rattle.replay_call.proofs.Near.{outlined-left}
 use Rattle.replay_table_perform.proofs.regions.outlined_with.Statement.{statement}
 use Rattle.replay_table_perform.proofs.regions.outlined_with.Tie as tie
 

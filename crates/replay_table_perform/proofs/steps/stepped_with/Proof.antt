@@ -6,7 +6,7 @@ use borrow.Author.Needs.{needs}
 use Rattle.set.specs.Set.{setOf}
 use Rattle.histories.specs.Lists.{steps}
 use Rattle.histories.proofs.Left.{step-left}
-use Rattle.replay_perform.specs.Left.{leaves}
+use Rattle.replay_call.specs.Left.{leaves}
 use Rattle.replay_table_perform.proofs.steps.stepped_with.Statement.{statement}
 use Rattle.replay_table_perform.proofs.steps.stepped_with.Tie as tie
 

@@ -1,4 +1,0 @@
--- What the walks of this crate share.
-pub mod Lent
-pub mod Results
-pub mod Points
