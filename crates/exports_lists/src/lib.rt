@@ -24,6 +24,6 @@ pub extern "C" fn a5_place_list(
     ensures { λ r. ⌜ returned r (now (results .exit)) (lent frame «face_store» «sphere_store» .exit)
         ≡ inC (placeListOn ieee ORIGINS (lent frame «face_store» «sphere_store» .entry) (now (positions .entry)) (now (results .entry))) ⌝ }
 {
-    let given = place_list::place_list(frame, face_store, sphere_store, positions, results);
+    let given = list_calls::place_list(frame, face_store, sphere_store, positions, results);
     answer::status(given)
 }

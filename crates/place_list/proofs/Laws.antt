@@ -1,5 +1,5 @@
--- What a reader would try of a list of positions: none, one, two lists one after the other, a position that is refused, and the result at a place. They
--- hold for every arithmetic, every table and every set, whatever it holds. Assumes nothing.
+-- What a reader would try of a list of positions: a call that is refused, no position, one, two lists one after the other, a position that is refused, and
+-- the result at a place. They hold for every arithmetic, every table and every set, whatever it holds. Assumes nothing.
 use mathlib.Core.Path.{_≡_, refl, sym, ap, _∙_}
 use mathlib.Core.List.{List, [], _∷_, _++_}
 use Prim.Native.Nat.{ℕ, zero, suc, _+_, _<_}
@@ -23,12 +23,22 @@ use Rattle.place_list.specs.Lists.{resultOf, Placed, placed, placedOne, 
 use Rattle.place_list.specs.Uses.{counted, usedInTurn}
 use Rattle.place_list.proofs.Lengths.{in-turn-check}
 
--- ---- the checks where there is a result for each position
 module _ (A : Arith) (table : List Float) where
   -- the checks of the set and the table
   abbrev set-check : Set → Given (Unit {0})
   set-check s = checkWith A table s
 
+  -- ---- a refusal of the set or the table comes before 14
+  pub set-first : (s : Set) (positions results n : ℕ) → set-check s ≡ refused n → checkList A table s positions results ≡ refused n
+  unfolding checkList
+  set-first s positions results n wrong = rw wrong
+
+  -- ---- a call that is refused leaves the results and the set as they were
+  pub refused-list : (s : Set) (ps : List LonLat) (rs : List PlaceResult) (n : ℕ) → checkList A table s (length ps) (length rs) ≡ refused n
+      → placeListOn A table s ps rs ≡ called (refused n) rs s
+  refused-list s ps rs n wrong = rw wrong
+
+  -- ---- the checks where there is a result for each position
   check-alike : (s : Set) (m n : ℕ) → m ≡ n → checkList A table s m n ≡ set-check s
   unfolding checkList checkCounts
   check-alike s m n e = rw (eq-eqb m n e) (then-pass (set-check s) passed refl)

@@ -1,7 +1,3 @@
--- Laws behind the proofs of the functions, and of lists.
-pub mod Rows
-pub mod Loop
-pub mod Numbers
-pub mod Kept
+-- Laws of lists.
 pub mod Lengths
 pub mod Laws

@@ -6,7 +6,7 @@ use calls::place;
 use coordinates::coords::Face;
 use coordinates::lonlat::LonLat;
 use coordinates::vec2::Vec2;
-use place_list::check_counts;
+use list_parts::check_counts;
 use region_work::region::Region;
 use region_work::region::RegionAnswer;
 use region_work::seen::Seen;

@@ -1,8 +1,8 @@
 // Positions and results lent to `place_list` and `place_list_with`. A slice of structs is lent by a walk of the code by hand, so the functions
 // that lend have no more than that: the arrays come and go by value, and what is made of them is made elsewhere.
 use coordinates::lonlat::LonLat;
+use list_calls::place_list;
 use place_list::PlaceResult;
-use place_list::place_list;
 use replay_lent::lists::Listed;
 use replay_lent::lists::MOST;
 use replay_lent::lists::paired;

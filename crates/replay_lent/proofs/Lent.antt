@@ -34,7 +34,7 @@ use denote.Slice.{sliceVal, MutSlice, ShrSlice, Room, finally}
 use denote.Lend.{Held}
 use denote.Index.{row}
 use denote.Steps.{only}
-use Rattle.place_list.proofs.Rows.{lends-row, row-back, shares-row, shared-back, Part}
+use Rattle.list_parts.proofs.Rows.{lends-row, row-back, shares-row, shared-back, Part}
 use Rattle.replay_sets.proofs.Cells.{cell-row, row-cell, Rest, row-cut, row-join}
 
 -- the type of local k

@@ -1,11 +1,11 @@
 // Radar lists with a table of origins in place of the built-in one (document 02, Papers 1 and 10). Results, counts and turns
-// are crate place_list's; the table's numbers are tested by 21 and 22, after 3 and before 14, before any position is placed.
+// are crate list_parts's; the table's numbers are tested by 21 and 22, after 3 and before 14, before any position is placed.
 use answer::Check;
 use coordinates::lonlat::LonLat;
+use list_parts::check_counts;
+use list_parts::result;
+use list_parts::turns;
 use place_list::PlaceResult;
-use place_list::check_counts;
-use place_list::result;
-use place_list::turns;
 use set::checks::check_with;
 use set::checks::first_refusal;
 ghost use mathlib.Core.Path.{_≡_};

@@ -1,5 +1,5 @@
 -- `a5_place_list` meets its contract: a walk of its MIR, by hand, since the borrow checker covers no slice of structs. The references of the frame and of the
--- positions are copied, the stores and the results are given on to `place_list::place_list` for good, and its answer goes to `answer::status`. Of the two only
+-- positions are copied, the stores and the results are given on to `list_calls::place_list` for good, and its answer goes to `answer::status`. Of the two only
 -- the contracts are known.
 -- Slices: 1 the frame, 2 the face store, 3 the sphere store, 4 the positions, 5 the results. Each is lent for κ, with the share q of its token, lies at
 -- b, o under the ghost name γ, and has room.
@@ -62,10 +62,10 @@ use Rattle.set.specs.Set.{Set, setOf}
 use Rattle.place_list.specs.declared.PlaceResult.{PlaceResult}
 use Rattle.place_list.specs.Lists.{called, placeListOn}
 use Rattle.place_list.proofs.PlaceResult as R
-use Rattle.place_list.proofs.place_list as list
-use Rattle.place_list.proofs.place_list.Symbol as list-def
-use Rattle.place_list.proofs.place_list.Symbol.{name as #place-list}
-use Rattle.place_list.proofs.place_list.Met as list-thm
+use Rattle.list_calls.proofs.place_list as list
+use Rattle.list_calls.proofs.place_list.Symbol as list-def
+use Rattle.list_calls.proofs.place_list.Symbol.{name as #place-list}
+use Rattle.list_calls.proofs.place_list.Met as list-thm
 use Rattle.exports_lists.specs.Lists.{returned, inC}
 use Rattle.exports_lists.proofs.a5_place_list.Key.{name as #a5-place-list}
 use Rattle.exports_lists.proofs.a5_place_list as f
@@ -168,7 +168,7 @@ module _ {M : Type 1} (𝓤 : URA M) (H : Heap 𝓤) (A : Atoms 𝓤) (W : Given
   abbrev Post : Val → SProp 𝓤
   Post = walkOf 𝓤 H A f.ended stayed (f.clauses 𝓤 H A at-mem run) .post ((κs, qs, tt, a, at), tt)
 
-  -- ---- the call of `place_list::place_list`
+  -- ---- the call of `list_calls::place_list`
   abbrev to-list : Listing 𝓤 H A at-mem run .Ghost
   to-list = ((κs, qs, tt, a, at), tt)
 
@@ -270,7 +270,7 @@ module _ {M : Type 1} (𝓤 : URA M) (H : Heap 𝓤) (A : Atoms 𝓤) (W : Given
         move ! (1 ∷ []) $ fsplit ! $
         move ! (1 ∷ []) $ fsplit ! $ use1 W (‵ Own₄ ⊛ ‵ Own₄) (shr-slice-copy 𝓤 H A W (named 3) κ₄ T.the-row .twice x₄ (s₄ ∷ [])) $ split ! $
         move ! (2 ∷ []) $ fsplit ! $
-        -- the call of `place_list::place_list`
+        -- the call of `list_calls::place_list`
         move ! (34 ∷ 6 ∷ 5 ∷ 4 ∷ 2 ∷ 0 ∷ []) $ group ! 6 $ use1 W (raw (Listing 𝓤 H A at-mem run .pre to-list)) goes-list $
         calls-at ! fm (Listing 𝓤 H A at-mem run) (known .listing) to-list (and-then ! (load ! (from ! (stop !)) (look ! 26 refl))
         (and-then ! (load ! (from ! (stop !)) (look ! 12 refl)) (and-then ! (load ! (from ! (stop !)) (look ! 8 refl))
@@ -355,7 +355,7 @@ module _ {M : Type 1} (𝓤 : URA M) (H : Heap 𝓤) (A : Atoms 𝓤) (W : Given
 pub a5-place-list-spec : {M : Type 1} → stated.statement M
 unfolding code.routine tablesOf
 a5-place-list-spec 𝓤 H 𝓜 𝓖 𝓡 =
-    let listing = cited 𝓤 H (Listing 𝓤 H (𝓖 .A) (𝓜 .mem) (𝓡 .run)) 𝓜 𝓡 code.env #place-list list-def.routine code.calls-place-list·place-list
+    let listing = cited 𝓤 H (Listing 𝓤 H (𝓖 .A) (𝓜 .mem) (𝓡 .run)) 𝓜 𝓡 code.env #place-list list-def.routine code.calls-list-calls·place-list
     (list-thm.met 𝓤 H 𝓜 𝓖 𝓡) in
     let numbering = cited 𝓤 H (Numbering 𝓤 H (𝓖 .A) (𝓜 .mem) (𝓡 .run)) 𝓜 𝓡 code.env #answer·status number-def.routine
     code.calls-answer·status (number-thm.met 𝓤 H 𝓜 𝓖 𝓡) in

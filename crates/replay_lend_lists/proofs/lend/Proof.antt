@@ -63,10 +63,10 @@ use Rattle.place_list.specs.declared.PlaceResult.{PlaceResult}
 use Rattle.place_list.specs.Lists.{called, placeListOn}
 use Rattle.place_list.proofs.PlaceResult as R
 use Rattle.place_list.proofs.PlaceResult.Laws as R′
-use Rattle.place_list.proofs.place_list as place
-use Rattle.place_list.proofs.place_list.Symbol as place-def
-use Rattle.place_list.proofs.place_list.Symbol.{name as #place-list}
-use Rattle.place_list.proofs.place_list.Met as place-thm
+use Rattle.list_calls.proofs.place_list as place
+use Rattle.list_calls.proofs.place_list.Symbol as place-def
+use Rattle.list_calls.proofs.place_list.Symbol.{name as #place-list}
+use Rattle.list_calls.proofs.place_list.Met as place-thm
 use Rattle.replay_lent.specs.Lists.{left, placedFirst}
 use Rattle.replay_lent.specs.declared.lists.Listed.{Listed}
 use Rattle.replay_lent.proofs.Lent.{tyAt, within, count-fits, sixteen-fit, twenty-four-fit, at-name, Shared, Lent, shares-first, shared-again, lends-first, lent-again}
@@ -419,7 +419,7 @@ lend-spec 𝓤 H 𝓜 𝓖 𝓡 =
     entered 𝓤 H (tripleOf 𝓤 H (𝓖 .A) f.signature (f.spec 𝓤 H (𝓖 .A) (𝓜 .mem) (𝓡 .run)))
     (tables 𝓤 H 𝓜 𝓡 code.env .C) (tables 𝓤 H 𝓜 𝓡 code.env .Λ) #lend code.function (code.unfolded 𝓤 H 𝓜 𝓡)
     (meets 𝓤 H (𝓖 .A) (givenOf 𝓤 H 𝓜 𝓖) (𝓜 .mem) (𝓡 .run) (tablesOf 𝓤 H 𝓜 (tables 𝓤 H 𝓜 𝓡 code.env)) (
-      cited 𝓤 H (Place 𝓤 H (𝓖 .A) (𝓜 .mem) (𝓡 .run)) 𝓜 𝓡 code.env #place-list place-def.routine code.calls-place-list·place-list
+      cited 𝓤 H (Place 𝓤 H (𝓖 .A) (𝓜 .mem) (𝓡 .run)) 𝓜 𝓡 code.env #place-list place-def.routine code.calls-list-calls·place-list
           (place-thm.met 𝓤 H 𝓜 𝓖 𝓡),
       cited 𝓤 H (Pairing 𝓤 H (𝓖 .A) (𝓜 .mem) (𝓡 .run)) 𝓜 𝓡 code.env #paired pair-def.routine code.calls-replay-lent·lists·paired
           (pair-thm.met 𝓤 H 𝓜 𝓖 𝓡),

@@ -1,7 +1,7 @@
--- `place_list_with` meets its contract: a walk of its MIR, by hand, as `place_list::place_list`'s is, with a table more.
+-- `place_list_with` meets its contract: a walk of its MIR, by hand, as `list_calls::place_list`'s is, with a table more.
 -- The table is an array by value: it stands in a local of its own, owns nothing (`table-makes`), and is copied to each call.
 -- The idea, the invariant and the measure are those of `place_list`: the stores' borrows are opened once, lent to `check_list_with` to be read and taken back;
--- `turns` says how many positions are placed, n. Once i are placed, the rows of both stores and of the results are those of `at-turn` (place_list's Loop), and
+-- `turns` says how many positions are placed, n. Once i are placed, the rows of both stores and of the results are those of `at-turn` (list_parts's Loop), and
 -- what Kept says is kept. Measure: n - i. A turn is `more`, the one that leaves the loop `ends`. Of the three functions only the contracts are known.
 -- Slices: 1 the frame, 2 the face store, 3 the sphere store, 4 the positions, 5 the results. Each is lent for κ, with the share q of its token, lies at
 -- b, o under the ghost name γ, and has room.
@@ -77,20 +77,20 @@ use Rattle.coordinates.proofs.lonlat.LonLat.Laws as T′
 use Rattle.set.specs.Set.{Set, setOf}
 use Rattle.place_list.specs.declared.PlaceResult.{PlaceResult}
 use Rattle.place_list.specs.Lists.{Step, step, placedOne, Placed, Called, called, checkList, turnsOf, placeListOn}
-use Rattle.place_list.proofs.Loop.{nowhere, at-turn, within}
-use Rattle.place_list.proofs.Numbers.{one-more, next-fits-of, all-done, still-left, one-done, position-fits, result-fits, tyAt}
-use Rattle.place_list.proofs.Kept.{Kept, stepped, kept-next, ended-at}
-use Rattle.place_list.proofs.Rows.{lends-row, row-back, shares-row, shared-back, Part}
+use Rattle.list_parts.proofs.Loop.{nowhere, at-turn, within}
+use Rattle.list_parts.proofs.Numbers.{one-more, next-fits-of, all-done, still-left, one-done, position-fits, result-fits, tyAt}
+use Rattle.list_parts.proofs.Kept.{Kept, stepped, kept-next, ended-at}
+use Rattle.list_parts.proofs.Rows.{lends-row, row-back, shares-row, shared-back, Part}
 use Rattle.place_list.proofs.PlaceResult as R
 use Rattle.place_list.proofs.PlaceResult.Laws as R′
 use Rattle.table_lists.proofs.check_list_with as checks
 use Rattle.table_lists.proofs.check_list_with.Symbol as checks-def
 use Rattle.table_lists.proofs.check_list_with.Symbol.{name as #check-list-with}
 use Rattle.table_lists.proofs.check_list_with.Met as checks-thm
-use Rattle.place_list.proofs.turns as turns
-use Rattle.place_list.proofs.turns.Symbol as turns-def
-use Rattle.place_list.proofs.turns.Symbol.{name as #place-list·turns}
-use Rattle.place_list.proofs.turns.Met as turns-thm
+use Rattle.list_parts.proofs.turns as turns
+use Rattle.list_parts.proofs.turns.Symbol as turns-def
+use Rattle.list_parts.proofs.turns.Symbol.{name as #list-parts·turns}
+use Rattle.list_parts.proofs.turns.Met as turns-thm
 use Rattle.table_lists.proofs.place_one_with as place
 use Rattle.table_lists.proofs.place_one_with.Symbol as place-def
 use Rattle.table_lists.proofs.place_one_with.Symbol.{name as #place-one-with}
@@ -140,7 +140,7 @@ module _ {M : Type 1} (𝓤 : URA M) (H : Heap 𝓤) (A : Atoms 𝓤) (at-mem : 
 
   record Known (C : Calls 𝓤 H) : Type 1 where
     pub checking : Triple 𝓤 (C #check-list-with) Checking
-    pub turning : Triple 𝓤 (C #place-list·turns) Turns
+    pub turning : Triple 𝓤 (C #list-parts·turns) Turns
     pub placing : Triple 𝓤 (C #place-one-with) Placing
 
 module _ {M : Type 1} (𝓤 : URA M) (H : Heap 𝓤) (A : Atoms 𝓤) (W : Given 𝓤 H A) (at-mem : Memory → SProp 𝓤) (run : Routine → Fun 𝓤)
@@ -750,7 +750,7 @@ unfolding code.routine tablesOf
 place-list-with-spec 𝓤 H 𝓜 𝓖 𝓡 =
     let checking = cited 𝓤 H (Checking 𝓤 H (𝓖 .A) (𝓜 .mem) (𝓡 .run)) 𝓜 𝓡 code.env #check-list-with checks-def.routine code.calls-table-lists·check-list-with
     (checks-thm.met 𝓤 H 𝓜 𝓖 𝓡) in
-    let turning = cited 𝓤 H (Turns 𝓤 H (𝓖 .A) (𝓜 .mem) (𝓡 .run)) 𝓜 𝓡 code.env #place-list·turns turns-def.routine code.calls-place-list·turns
+    let turning = cited 𝓤 H (Turns 𝓤 H (𝓖 .A) (𝓜 .mem) (𝓡 .run)) 𝓜 𝓡 code.env #list-parts·turns turns-def.routine code.calls-list-parts·turns
     (turns-thm.met 𝓤 H 𝓜 𝓖 𝓡) in
     let placing = cited 𝓤 H (Placing 𝓤 H (𝓖 .A) (𝓜 .mem) (𝓡 .run)) 𝓜 𝓡 code.env #place-one-with place-def.routine code.calls-table-lists·place-one-with
     (place-thm.met 𝓤 H 𝓜 𝓖 𝓡) in

@@ -70,7 +70,7 @@ use Rattle.set.specs.Set.{Set, setOf}
 use Rattle.place_list.specs.declared.PlaceResult.{PlaceResult}
 use Rattle.place_list.specs.Lists.{called, placeListOn}
 use Rattle.place_list.proofs.PlaceResult as R
-use Rattle.place_list.proofs.Numbers.{tyAt}
+use Rattle.list_parts.proofs.Numbers.{tyAt}
 use Rattle.table_lists.proofs.place_list_with as list
 use Rattle.table_lists.proofs.place_list_with.Symbol as list-def
 use Rattle.table_lists.proofs.place_list_with.Symbol.{name as #place-list-with}

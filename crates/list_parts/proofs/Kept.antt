@@ -12,9 +12,9 @@ use Rattle.answer.specs.Given.{Given}
 use Rattle.arithmetic.specs.Arith.{ieee}
 use Rattle.coordinates.specs.declared.lonlat.LonLat.{LonLat}
 use Rattle.set.specs.Set.{Set, setOf}
 use Rattle.place_list.specs.declared.PlaceResult.{PlaceResult}
 use Rattle.place_list.specs.Lists.{Step, step, placedOne, Placed, called, checkList, turnsOf, placeListOn}
-use Rattle.place_list.proofs.Loop.{nowhere, at-turn, listed}
+use Rattle.list_parts.proofs.Loop.{nowhere, at-turn, listed}
 
 pub record Kept (d : Placed) (s : Set) (rs : List PlaceResult) : Type 0 where
   pub frame : d .set .frame ≡ s .frame

@@ -1,8 +1,8 @@
 -- `check_counts` meets its contract. Assumes nothing.
 use borrow.Author.Tests.{eq-eqb, ne-eqb}
 use Rattle.place_list.specs.Lists.{checkCounts}
-use Rattle.place_list.proofs.check_counts.Statement.{statement}
-use Rattle.place_list.proofs.check_counts.Tie as tie
+use Rattle.list_parts.proofs.check_counts.Statement.{statement}
+use Rattle.list_parts.proofs.check_counts.Tie as tie
 
 returns : tie.Need-returns
 unfolding checkCounts

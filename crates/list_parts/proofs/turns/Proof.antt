@@ -1,7 +1,7 @@
 -- `turns` meets its contract: by the check's case. Assumes nothing.
 use borrow.Author.Needs.{needs}
-use Rattle.place_list.proofs.turns.Statement.{statement}
-use Rattle.place_list.proofs.turns.Tie as tie
+use Rattle.list_parts.proofs.turns.Statement.{statement}
+use Rattle.list_parts.proofs.turns.Tie as tie
 
 returns : tie.Need-returns
 returns c = rw (c .enum-told .given .1)

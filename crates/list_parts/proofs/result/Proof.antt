@@ -6,9 +6,9 @@ use borrow.Author.Needs.{needs}
 use Rattle.answer.specs.Given.{refused}
 use Rattle.dodecahedron.specs.Place.{givenPlace}
 use Rattle.dodecahedron.specs.declared.place.PlaceAnswer.{PlaceAnswer}
 use Rattle.place_list.specs.Lists.{resultOf}
-use Rattle.place_list.proofs.result.Statement.{statement}
-use Rattle.place_list.proofs.result.Tie as tie
+use Rattle.list_parts.proofs.result.Statement.{statement}
+use Rattle.list_parts.proofs.result.Tie as tie
 
 returns : tie.Need-returns
 returns c = rw (c .before .given .given .1)

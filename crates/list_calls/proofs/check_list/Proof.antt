@@ -1,9 +1,9 @@
 -- `check_list` meets its contract: the built-in table passes, so that its check may be left out. Assumes nothing.
 use borrow.Author.Needs.{needs}
 use Rattle.set.proofs.Opening.{built-in-check}
 use Rattle.place_list.specs.Lists.{checkList}
-use Rattle.place_list.proofs.check_list.Statement.{statement}
-use Rattle.place_list.proofs.check_list.Tie as tie
+use Rattle.list_calls.proofs.check_list.Statement.{statement}
+use Rattle.list_calls.proofs.check_list.Tie as tie
 
 returns : tie.Need-returns
 unfolding checkList

@@ -1,8 +1,8 @@
 -- `place_list` meets its contract: a walk of its MIR, by hand, since the borrow checker covers no slice of structs.
 -- The idea: the stores' borrows are opened once, lent to `check_list` to be read and taken back; `turns` says how many positions are placed, n; the positions
 -- are looked into once, and the results' borrow is opened once. Then comes the loop, and every borrow is closed at the list that is in memory when it is left.
--- Invariant, once i positions are placed: the rows of both stores and of the results are those of `at-turn` (Loop.antt), the frame of its set is the one
--- that was lent, and each list is as long as it was. Measure: n - i.
+-- Invariant, once i positions are placed: the rows of both stores and of the results are those of `at-turn` (list_parts's Loop), the frame of its set is the
+-- one that was lent, and each list is as long as it was. Measure: n - i.
 -- A turn (`more`) takes position i out of its row, lends both stores to `place_one` for lifetimes of the call, takes them back at their last lists, and
 -- puts the result in its row. The turn that leaves the loop is `ends`. Of `check_list`, `turns` and `place_one` only the contracts are known.
 -- Slices: 1 the frame, 2 the face store, 3 the sphere store, 4 the positions, 5 the results. Each is lent for κ, with the share q of its token, lies at
@@ -74,31 +74,31 @@ use Rattle.coordinates.proofs.lonlat.LonLat as T
 use Rattle.coordinates.proofs.lonlat.LonLat.Laws as T′
 use Rattle.origin.specs.Origins.{ORIGINS}
 use Rattle.set.specs.Set.{Set, setOf}
 use Rattle.place_list.specs.declared.PlaceResult.{PlaceResult}
 use Rattle.place_list.specs.Lists.{Step, step, placedOne, Placed, Called, called, checkList, turnsOf, placeListOn}
-use Rattle.place_list.proofs.Loop.{nowhere, at-turn, within}
-use Rattle.place_list.proofs.Numbers.{one-more, next-fits-of, all-done, still-left, one-done, position-fits, result-fits, tyAt}
-use Rattle.place_list.proofs.Kept.{Kept, stepped, kept-next, ended-at}
-use Rattle.place_list.proofs.Rows.{lends-row, row-back, shares-row, shared-back, Part}
+use Rattle.list_parts.proofs.Loop.{nowhere, at-turn, within}
+use Rattle.list_parts.proofs.Numbers.{one-more, next-fits-of, all-done, still-left, one-done, position-fits, result-fits, tyAt}
+use Rattle.list_parts.proofs.Kept.{Kept, stepped, kept-next, ended-at}
+use Rattle.list_parts.proofs.Rows.{lends-row, row-back, shares-row, shared-back, Part}
 use Rattle.place_list.proofs.PlaceResult as R
 use Rattle.place_list.proofs.PlaceResult.Laws as R′
-use Rattle.place_list.proofs.check_list as checks
-use Rattle.place_list.proofs.check_list.Symbol as checks-def
-use Rattle.place_list.proofs.check_list.Symbol.{name as #check-list}
-use Rattle.place_list.proofs.check_list.Met as checks-thm
-use Rattle.place_list.proofs.turns as turns
-use Rattle.place_list.proofs.turns.Symbol as turns-def
-use Rattle.place_list.proofs.turns.Symbol.{name as #turns}
-use Rattle.place_list.proofs.turns.Met as turns-thm
-use Rattle.place_list.proofs.place_one as place
-use Rattle.place_list.proofs.place_one.Symbol as place-def
-use Rattle.place_list.proofs.place_one.Symbol.{name as #place-one}
-use Rattle.place_list.proofs.place_one.Met as place-thm
-use Rattle.place_list.proofs.place_list.Key.{name as #place-list}
-use Rattle.place_list.proofs.place_list as f
-use Rattle.place_list.proofs.place_list.Statement as stated
-use Rattle.place_list.proofs.place_list.Code as code
-use Rattle.place_list.proofs.place_list.Code.Mir as Mir
+use Rattle.list_calls.proofs.check_list as checks
+use Rattle.list_calls.proofs.check_list.Symbol as checks-def
+use Rattle.list_calls.proofs.check_list.Symbol.{name as #check-list}
+use Rattle.list_calls.proofs.check_list.Met as checks-thm
+use Rattle.list_parts.proofs.turns as turns
+use Rattle.list_parts.proofs.turns.Symbol as turns-def
+use Rattle.list_parts.proofs.turns.Symbol.{name as #turns}
+use Rattle.list_parts.proofs.turns.Met as turns-thm
+use Rattle.list_calls.proofs.place_one as place
+use Rattle.list_calls.proofs.place_one.Symbol as place-def
+use Rattle.list_calls.proofs.place_one.Symbol.{name as #place-one}
+use Rattle.list_calls.proofs.place_one.Met as place-thm
+use Rattle.list_calls.proofs.place_list.Key.{name as #place-list}
+use Rattle.list_calls.proofs.place_list as f
+use Rattle.list_calls.proofs.place_list.Statement as stated
+use Rattle.list_calls.proofs.place_list.Code as code
+use Rattle.list_calls.proofs.place_list.Code.Mir as Mir
 
 abbrev stayed : Stays (f.ended .signature .params) (f.ended .kept)
 stayed = (
@@ -708,11 +708,11 @@ module _ {M : Type 1} (𝓤 : URA M) (H : Heap 𝓤) (A : Atoms 𝓤) (W : Given
 pub place-list-spec : {M : Type 1} → stated.statement M
 unfolding code.routine tablesOf
 place-list-spec 𝓤 H 𝓜 𝓖 𝓡 =
-    let checking = cited 𝓤 H (Checking 𝓤 H (𝓖 .A) (𝓜 .mem) (𝓡 .run)) 𝓜 𝓡 code.env #check-list checks-def.routine code.calls-place-list·check-list
+    let checking = cited 𝓤 H (Checking 𝓤 H (𝓖 .A) (𝓜 .mem) (𝓡 .run)) 𝓜 𝓡 code.env #check-list checks-def.routine code.calls-list-calls·check-list
     (checks-thm.met 𝓤 H 𝓜 𝓖 𝓡) in
-    let turning = cited 𝓤 H (Turns 𝓤 H (𝓖 .A) (𝓜 .mem) (𝓡 .run)) 𝓜 𝓡 code.env #turns turns-def.routine code.calls-place-list·turns
+    let turning = cited 𝓤 H (Turns 𝓤 H (𝓖 .A) (𝓜 .mem) (𝓡 .run)) 𝓜 𝓡 code.env #turns turns-def.routine code.calls-list-parts·turns
     (turns-thm.met 𝓤 H 𝓜 𝓖 𝓡) in
-    let placing = cited 𝓤 H (Placing 𝓤 H (𝓖 .A) (𝓜 .mem) (𝓡 .run)) 𝓜 𝓡 code.env #place-one place-def.routine code.calls-place-list·place-one
+    let placing = cited 𝓤 H (Placing 𝓤 H (𝓖 .A) (𝓜 .mem) (𝓡 .run)) 𝓜 𝓡 code.env #place-one place-def.routine code.calls-list-calls·place-one
     (place-thm.met 𝓤 H 𝓜 𝓖 𝓡) in
     entered 𝓤 H (tripleOf 𝓤 H (𝓖 .A) f.signature (f.spec 𝓤 H (𝓖 .A) (𝓜 .mem) (𝓡 .run)))
     (tables 𝓤 H 𝓜 𝓡 code.env .C) (tables 𝓤 H 𝓜 𝓡 code.env .Λ) #place-list code.function (code.unfolded 𝓤 H 𝓜 𝓡)

@@ -1,8 +1,8 @@
 -- `place_one` meets its contract: place's, with its answer as a result. Assumes nothing.
 use borrow.Author.Needs.{needs}
 use Rattle.place_list.specs.Lists.{placedOne}
-use Rattle.place_list.proofs.place_one.Statement.{statement}
-use Rattle.place_list.proofs.place_one.Tie as tie
+use Rattle.list_calls.proofs.place_one.Statement.{statement}
+use Rattle.list_calls.proofs.place_one.Tie as tie
 
 returns : tie.Need-returns
 unfolding placedOne

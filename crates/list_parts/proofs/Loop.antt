@@ -1,4 +1,4 @@
--- What `place_list` has after each turn of its loop, and that the last of it is what its contract says.
+-- What a call on a list has after each turn of its loop, and that the last of it is what its contract says.
 --     at-turn        the results and the set once the first i positions are placed
 --     at-end         once all are placed, they are what placing in turn gives, where there is a result for each position
 --     within         a turn's index lies in both lists

@@ -1,0 +1,5 @@
+-- Laws behind the proofs of the functions.
+pub mod Rows
+pub mod Loop
+pub mod Numbers
+pub mod Kept
