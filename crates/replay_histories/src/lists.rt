@@ -1,29 +1,15 @@
 // Lists of calls on one set, beside a second one that gathers what the calls write on newly opened sets.
-use crate::counts::count;
 use crate::counts::count_outcome;
-use crate::draw::draw;
 use crate::due::expected;
 use open_calls::open;
-use replay::numbers::unlike;
 use replay_call::Call;
+use replay_draw::counts::count;
+use replay_draw::draw::draw;
+use replay_draw::stores::alike;
 use replay_perform::perform;
 use set::sizes::FACE_STORE;
 use set::sizes::FRAME;
 use set::sizes::SPHERE_STORE;
-
-// Whether every number of a set is that of a second one.
-pub(crate) fn alike(
-    frame: &[f64; FRAME],
-    face: &[f64; FACE_STORE],
-    sphere: &[f64; SPHERE_STORE],
-    due_frame: &[f64; FRAME],
-    due_face: &[f64; FACE_STORE],
-    due_sphere: &[f64; SPHERE_STORE],
-) -> bool {
-    unlike(frame, due_frame, 0) == 0
-        && unlike(face, due_face, 0) == 0
-        && unlike(sphere, due_sphere, 0) == 0
-}
 
 // One call on the set, compared: what it comes to, and every number of the set after it.
 fn turn(

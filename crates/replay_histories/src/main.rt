@@ -2,17 +2,11 @@
 // and unplace, each list of positions, region and step of the caption panel is made on a newly opened set too, and must
 // come to the same there, bit for bit, with every result, point and byte that it leaves. Two stores gather what
 // those calls have written there since the last open: after each call the set's stores must equal them in every number,
-// and its frame the first open's. Then the oracle's list (oracle/README.md) is read from standard input, each of its
-// vertices compared with what show hands back, and each b × c with what stands behind them in the sphere store. Last,
-// lists of the calls with a table run on the same set: opens bring tables, some of which are refused, every other call
-// takes that of the last open that answered, and a newly opened set is one opened with it; the frame must be that open's.
+// and its frame the first open's. Last the oracle's list (oracle/README.md) is read from standard input, each of its
+// vertices compared with what show hands back, and each b × c with what stands behind them in the sphere store.
 mod counts;
-mod draw;
 mod due;
 mod lists;
-mod stores;
-mod table_lists;
-mod tables;
 mod vertices;
 
 use open_calls::open;
@@ -78,18 +72,11 @@ fn run(names: &[u8]) {
         &mut differ,
     );
     replay_all(names, &face, &sphere, &mut compared, &mut differ);
-    table_lists::run(
-        &mut frame,
-        &mut face,
-        &mut sphere,
-        &mut compared,
-        &mut differ,
-    );
-    report::summaries(names, 31, &compared, &differ);
+    report::summaries(names, 21, &compared, &differ);
 }
 
 fn main() {
     run(
-        b" face_vertex sphere_vertex cross_product set forward inverse place unplace companion list region forward_refused inverse_refused place_refused unplace_refused companion_refused list_refused region_refused open show step set_with open_with open_with_refused forward_with inverse_with place_with unplace_with list_with region_with step_with",
+        b" face_vertex sphere_vertex cross_product set forward inverse place unplace companion list region forward_refused inverse_refused place_refused unplace_refused companion_refused list_refused region_refused open show step",
     );
 }

@@ -3,8 +3,8 @@ use Prim.Native.Nat.{_≤_, _-_}
 use mathlib.Core.Path.{_≡_}
 use lib.ListN.{length}
 use borrow.Author.Needs.{needs}
-use Rattle.replay_histories.proofs.stores.gather.Statement.{statement}
-use Rattle.replay_histories.proofs.stores.gather.Tie as tie
+use Rattle.replay_draw.proofs.stores.gather.Statement.{statement}
+use Rattle.replay_draw.proofs.stores.gather.Tie as tie
 
 abbrev Inv-loop : tie.InvT-loop
 Inv-loop store₀ from i₀ store i = (i ≤ length from) × (length store ≡ length from) × (length store₀ ≡ length from)

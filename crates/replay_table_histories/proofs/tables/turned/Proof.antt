@@ -1,8 +1,8 @@
 -- `tables::turned` is safe and ends. The loop's invariant bounds the rows that are turned; its measure: how many are left. Assumes nothing.
 use Prim.Native.Nat.{_≤_, _-_}
 use borrow.Author.Needs.{needs}
-use Rattle.replay_histories.proofs.tables.turned.Statement.{statement}
-use Rattle.replay_histories.proofs.tables.turned.Tie as tie
+use Rattle.replay_table_histories.proofs.tables.turned.Statement.{statement}
+use Rattle.replay_table_histories.proofs.tables.turned.Tie as tie
 
 abbrev Inv-loop : tie.InvT-loop
 Inv-loop turn table₀ row₀ table row = row ≤ 12

@@ -1,12 +1,12 @@
 // The tables that opens bring, from the generator: the built-in one, turned ones, and some that open refuses.
-use crate::draw::around;
-use crate::draw::next;
 use coordinates::coords::Cartesian;
 use coordinates::vec3::Vec3;
 use origin::origin::built_in;
 use origin::utils::Quat;
 use quaternion::transform_quat;
 use replay::pattern::value;
+use replay_draw::draw::around;
+use replay_draw::draw::next;
 use square_root::root::sqrt;
 use transforms::coordinate_transforms::to_spherical;
 ghost use Prim.Native.Nat.{_<_};

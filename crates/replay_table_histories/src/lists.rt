@@ -1,13 +1,14 @@
 // Lists of calls with tables on one set, beside a second one that gathers what the calls write on sets newly opened with the
 // same table. Each open brings a table, and every other call takes that of the last open that answered.
-use crate::counts::count;
-use crate::counts::count_with;
-use crate::draw::draw;
+use crate::counts::count_outcome;
 use crate::due::expected_with;
-use crate::lists::alike;
 use crate::tables;
+use open_calls::open;
 use origin::origin::built_in;
 use replay_call::Call;
+use replay_draw::counts::count;
+use replay_draw::draw::draw;
+use replay_draw::stores::alike;
 use replay_table_perform::perform_with;
 use set::sizes::FACE_STORE;
 use set::sizes::FRAME;
@@ -37,9 +38,9 @@ fn turn(
 ) {
     let given = perform_with(table, frame, face, sphere, call);
     let due = expected_with(table, call, taken, due_frame, due_face, due_sphere);
-    count_with(call, given, due, compared, differ);
+    count_outcome(call, given, due, compared, differ);
     let as_due = alike(frame, face, sphere, due_frame, due_face, due_sphere);
-    count(22, as_due, compared, differ);
+    count(1, as_due, compared, differ);
 }
 
 // A list of so many calls, open once in so many of them.
@@ -78,8 +79,7 @@ fn list(
     }
 }
 
-// A list with many opens, and then one with few. The set is lent as the lists before left it, opened with the built-in table and
-// with slots filled, and the second one starts from what it holds.
+// A list with many opens, and then one with few. The set is lent as open with the built-in table leaves it.
 pub(crate) fn run(
     frame: &mut [f64; FRAME],
     face: &mut [f64; FACE_STORE],
@@ -89,9 +89,10 @@ pub(crate) fn run(
 ) {
     let mut seed: u64 = 0x1032_5476_98ba_dcfe;
     let mut taken = built_in();
-    let mut f = *frame;
-    let mut g = *face;
-    let mut h = *sphere;
+    let mut f = [0.0; FRAME];
+    let mut g = [0.0; FACE_STORE];
+    let mut h = [0.0; SPHERE_STORE];
+    open(&mut f, &mut g, &mut h);
     list(
         &mut seed,
         4000,

@@ -12,7 +12,7 @@ use replay_call::steps::Registers;
 use show::StoreKind;
 
 // Marsaglia's xorshift of 64 bits.
-pub(crate) fn next(seed: &mut u64) -> u64 {
+pub fn next(seed: &mut u64) -> u64 {
     let a = *seed ^ (*seed << 13);
     let b = a ^ (a >> 7);
     let c = b ^ (b << 17);
@@ -21,7 +21,7 @@ pub(crate) fn next(seed: &mut u64) -> u64 {
 }
 
 // A number from -1.125 to 1.125, so that some lie beyond a range.
-pub(crate) fn around(r: u64) -> f64 {
+pub fn around(r: u64) -> f64 {
     2.25 * value(0x3ff0_0000_0000_0000 + r / 4096) - 3.375
 }
 
@@ -156,7 +156,7 @@ fn registers(seed: &mut u64) -> Registers {
 }
 
 // Open once in so many calls, or never for 0; else one of the others.
-pub(crate) fn draw(seed: &mut u64, opens: u64) -> Call {
+pub fn draw(seed: &mut u64, opens: u64) -> Call {
     if opens > 0 && next(seed) % opens == 0 {
         return Call::Open;
     }

@@ -1,8 +1,8 @@
--- `table_lists::list` is safe and ends: the measure is the number of calls that are left. Nothing has to hold from one to the next. Assumes
+-- `lists::list` is safe and ends: the measure is the number of calls that are left. Nothing has to hold from one to the next. Assumes
 -- nothing.
 use native.Mathlib.Omega.{arith}
-use Rattle.replay_histories.proofs.table_lists.list.Statement.{statement}
-use Rattle.replay_histories.proofs.table_lists.list.Tie as tie
+use Rattle.replay_table_histories.proofs.lists.list.Statement.{statement}
+use Rattle.replay_table_histories.proofs.lists.list.Tie as tie
 
 abbrev Inv-loop : tie.InvT-loop
 Inv-loop _ _ _ _ _ _ _ _ _ _ _ _ _ _ _ _ _ _ _ _ _ _ _ _ = Unit {0}

@@ -1,8 +1,8 @@
 -- `tables::exchanged` is safe and ends. The loop's invariant bounds the numbers that are exchanged; its measure: how many are left. Assumes nothing.
 use Prim.Native.Nat.{_≤_, _<_, _-_}
 use borrow.Author.Needs.{needs}
-use Rattle.replay_histories.proofs.tables.exchanged.Statement.{statement}
-use Rattle.replay_histories.proofs.tables.exchanged.Tie as tie
+use Rattle.replay_table_histories.proofs.tables.exchanged.Statement.{statement}
+use Rattle.replay_table_histories.proofs.tables.exchanged.Tie as tie
 
 abbrev Inv-loop : tie.InvT-loop
 Inv-loop first second table exchanged₀ i₀ exchanged i = (i ≤ 7) × (first < 78) × (second < 78)

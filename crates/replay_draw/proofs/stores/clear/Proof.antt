@@ -3,8 +3,8 @@ use Prim.Native.Nat.{_≤_, _-_}
 use mathlib.Core.Path.{_≡_}
 use lib.ListN.{length}
 use borrow.Author.Needs.{needs}
-use Rattle.replay_histories.proofs.stores.clear.Statement.{statement}
-use Rattle.replay_histories.proofs.stores.clear.Tie as tie
+use Rattle.replay_draw.proofs.stores.clear.Statement.{statement}
+use Rattle.replay_draw.proofs.stores.clear.Tie as tie
 
 abbrev Inv-loop : tie.InvT-loop
 Inv-loop store₀ i₀ store i = (i ≤ length store₀) × (length store ≡ length store₀)
