@@ -8,7 +8,7 @@ use dodecahedron::work::FaceWork;
 use dodecahedron::work::LonLatWork;
 use dodecahedron::work::PlaceWork;
 use dodecahedron::work::SphericalWork;
-use stores::used::write_used;
+use used_slots::write_used;
 ghost use Rattle.arithmetic.specs.Arith.{ieee};
 ghost use Rattle.coordinates.specs.Conversions.{givenFace, givenSpherical, givenLonLat};
 ghost use Rattle.set.specs.Outcome.{lent, Leaves};

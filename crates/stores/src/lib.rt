@@ -1,3 +1,4 @@
-// The slots of a set's stores: whether one is filled, and writing those that a call used.
+// The slots of a set's stores: the definitions of what is read and written there and what holds of them,
+// which slot is whose, and whether one is filled.
 pub mod slots;
 pub mod used;

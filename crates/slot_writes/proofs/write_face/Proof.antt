@@ -1,10 +1,10 @@
--- `slots::write_face` meets its contract. Assumes nothing.
+-- `write_face` meets its contract. Assumes nothing.
 use native.Mathlib.Omega.{arith}
 use lib.ListN.{length-set}
 use Rattle.stores.specs.Slots.{faceRun}
 use Rattle.stores.proofs.Runs.{sets-whole}
-use Rattle.stores.proofs.slots.write_face.Statement.{statement}
-use Rattle.stores.proofs.slots.write_face.Tie as tie
+use Rattle.slot_writes.proofs.write_face.Statement.{statement}
+use Rattle.slot_writes.proofs.write_face.Tie as tie
 
 returns : tie.Need-returns
 returns c = sets-whole (faceRun (c .args .t)) (c .args .run .now) (c .pre)

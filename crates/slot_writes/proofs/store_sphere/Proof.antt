@@ -1,4 +1,4 @@
--- `slots::store_sphere` meets its contract. Assumes nothing.
+-- `store_sphere` meets its contract. Assumes nothing.
 use mathlib.Core.Path.{ap, _∙_}
 use mathlib.Core.List.{_∷_}
 use Prim.Native.Nat.{_+_}
@@ -8,10 +8,10 @@ use lib.ListN.{length}
 use lib.Ieee.{ofBits}
 use Rattle.arithmetic.specs.Numbers.{1·0}
 use Rattle.set.specs.Sizes.{SPHERE-WIDTH}
 use Rattle.stores.specs.Slots.{sphereRun}
 use Rattle.stores.proofs.Runs.{put-marked, length-put}
-use Rattle.stores.proofs.slots.store_sphere.Statement.{statement}
-use Rattle.stores.proofs.slots.store_sphere.Tie as tie
+use Rattle.slot_writes.proofs.store_sphere.Statement.{statement}
+use Rattle.slot_writes.proofs.store_sphere.Tie as tie
 
 returns : tie.Need-returns
 unfolding ofBits

@@ -1,4 +1,4 @@
--- `used::write_used` meets its contract. Assumes nothing.
+-- `write_used` meets its contract. Assumes nothing.
 use mathlib.Core.Path.{_≡_, sym, ap, _∙_}
 use Prim.Native.Nat.{_<_}
 use borrow.Author.Needs.{needs}
@@ -7,11 +7,11 @@ use Rattle.arithmetic.specs.Arith.{ieee}
 use Rattle.set.proofs.Lengths.{call-passed}
 use Rattle.set.specs.Checks.{checkCall}
 use Rattle.set.specs.Outcome.{held}
 use Rattle.stores.specs.declared.used.Used.{Used}
 use Rattle.stores.specs.Used.{sphereWritten, writtenIfThere}
 use Rattle.stores.proofs.Within.{sphere-below, has-slots, written-there}
-use Rattle.stores.proofs.used.write_used.Statement.{statement}
-use Rattle.stores.proofs.used.write_used.Tie as tie
+use Rattle.used_slots.proofs.write_used.Statement.{statement}
+use Rattle.used_slots.proofs.write_used.Tie as tie
 
 -- the set and the slots that were lent, once the set has the slots
 abbrev start : tie.Then1 → tie.Start

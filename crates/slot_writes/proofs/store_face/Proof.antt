@@ -1,4 +1,4 @@
--- `slots::store_face` meets its contract. Assumes nothing.
+-- `store_face` meets its contract. Assumes nothing.
 use mathlib.Core.Path.{ap, _∙_}
 use mathlib.Core.List.{_∷_}
 use Prim.Native.Nat.{_+_}
@@ -7,10 +7,10 @@ use borrow.Author.Needs.{needs}
 use lib.ListN.{length}
 use lib.Ieee.{ofBits}
 use Rattle.arithmetic.specs.Numbers.{1·0}
 use Rattle.stores.specs.Slots.{faceRun}
 use Rattle.stores.proofs.Runs.{put-marked, length-put}
-use Rattle.stores.proofs.slots.store_face.Statement.{statement}
-use Rattle.stores.proofs.slots.store_face.Tie as tie
+use Rattle.slot_writes.proofs.store_face.Statement.{statement}
+use Rattle.slot_writes.proofs.store_face.Tie as tie
 
 returns : tie.Need-returns
 unfolding ofBits

@@ -1,10 +1,10 @@
--- `used::has_slots` meets its contract. Assumes nothing.
+-- `has_slots` meets its contract. Assumes nothing.
 use mathlib.Core.Path.{sym, ap, _∙_}
 use borrow.Author.Needs.{needs}
 use Rattle.answer.specs.Answer.{givenCheck}
 use Rattle.stores.proofs.Within.{set-refuses, set-passes}
-use Rattle.stores.proofs.used.has_slots.Statement.{statement}
-use Rattle.stores.proofs.used.has_slots.Tie as tie
+use Rattle.used_slots.proofs.has_slots.Statement.{statement}
+use Rattle.used_slots.proofs.has_slots.Tie as tie
 
 returns : tie.Need-returns
 returns c =

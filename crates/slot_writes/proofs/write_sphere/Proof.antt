@@ -1,10 +1,10 @@
--- `slots::write_sphere` meets its contract. Assumes nothing.
+-- `write_sphere` meets its contract. Assumes nothing.
 use native.Mathlib.Omega.{arith}
 use lib.ListN.{length-set}
 use Rattle.stores.specs.Slots.{sphereRun}
 use Rattle.stores.proofs.Runs.{sets-whole}
-use Rattle.stores.proofs.slots.write_sphere.Statement.{statement}
-use Rattle.stores.proofs.slots.write_sphere.Tie as tie
+use Rattle.slot_writes.proofs.write_sphere.Statement.{statement}
+use Rattle.slot_writes.proofs.write_sphere.Tie as tie
 
 returns : tie.Need-returns
 returns c = sets-whole (sphereRun (c .args .t) (c .args .bxc)) (c .args .run .now) (c .pre)

@@ -1,9 +1,9 @@
--- `used::write_faces` meets its contract. Assumes nothing.
+-- `write_faces` meets its contract. Assumes nothing.
 use mathlib.Core.Path.{_≡_, _∙_}
 use borrow.Author.Needs.{needs}
 use Rattle.stores.proofs.Within.{face-below, source-below}
-use Rattle.stores.proofs.used.write_faces.Statement.{statement}
-use Rattle.stores.proofs.used.write_faces.Tie as tie
+use Rattle.used_slots.proofs.write_faces.Statement.{statement}
+use Rattle.used_slots.proofs.write_faces.Tie as tie
 
 write-face-slot-requires : tie.Need-write-face-slot-requires
 write-face-slot-requires c κs =

@@ -1,8 +1,8 @@
--- `slots::write_sphere_slot` meets its contract. Assumes nothing.
+-- `write_sphere_slot` meets its contract. Assumes nothing.
 use borrow.Author.Needs.{needs}
 use Rattle.stores.specs.Slots.{slotWritten}
-use Rattle.stores.proofs.slots.write_sphere_slot.Statement.{statement}
-use Rattle.stores.proofs.slots.write_sphere_slot.Tie as tie
+use Rattle.slot_writes.proofs.write_sphere_slot.Statement.{statement}
+use Rattle.slot_writes.proofs.write_sphere_slot.Tie as tie
 
 returns : tie.Need-returns
 unfolding slotWritten

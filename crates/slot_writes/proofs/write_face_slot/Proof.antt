@@ -1,9 +1,9 @@
--- `slots::write_face_slot` meets its contract. Assumes nothing.
+-- `write_face_slot` meets its contract. Assumes nothing.
 use borrow.Author.Needs.{needs}
 use Rattle.stores.specs.Slots.{slotWritten}
 use Rattle.stores.specs.Used.{faceWritten}
-use Rattle.stores.proofs.slots.write_face_slot.Statement.{statement}
-use Rattle.stores.proofs.slots.write_face_slot.Tie as tie
+use Rattle.slot_writes.proofs.write_face_slot.Statement.{statement}
+use Rattle.slot_writes.proofs.write_face_slot.Tie as tie
 
 returns : tie.Need-returns
 unfolding faceWritten slotWritten
