@@ -1,4 +1,2 @@
-pub mod Alike
 pub mod Outcome
 pub mod Record
-pub mod Tally

@@ -1,11 +1,9 @@
--- The big-endian numbers in a record, and the outcome that it stores. Definitions only.
+-- The big-endian numbers in a record, and when its head is well formed. Definitions only.
 use Prim.Native.Nat.{ℕ, _+_, _*_, _≤_, _<_}
 use mathlib.Core.Bool.{true, false}
 use mathlib.Core.List.{List}
 use lib.Dec.{ltb}
 use lib.ListN.{getD}
-use Rattle.replay.specs.Outcome.{outcomeOf}
-use Rattle.replay.specs.declared.outcome.Outcome.{Outcome}
 use Rattle.replay.specs.declared.record.Head.{Head}
 use Rattle.replay.specs.declared.record.Next.{Next}
 use Rattle.replay.specs.declared.record.Next.the-variants.{Record, Done}
@@ -32,8 +30,3 @@ pub record WellFormed (h : Head) : Type 0 where
 abbrev pub Ready : Next → Type 0
 Ready (Record h) = WellFormed h
 Ready Done = Unit
-
--- the outcome that follows the arguments
-abbrev pub storedIn : Head → List ℕ → Outcome
-storedIn h s =
-    outcomeOf (h .status) (h .answers) (wordAt s (h .arguments)) (wordAt s (h .arguments + 1)) (wordAt s (h .arguments + 2))

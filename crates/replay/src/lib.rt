@@ -1,8 +1,6 @@
-// What the programs that replay the oracle's lists share. A program asks its crate at each stored argument; the rest
-// is here: reading a record (oracle/README.md), comparing the outcome bit for bit, counting, and the report.
-pub mod numbers;
+// What the programs that replay the oracle's lists share. A program asks its crate at each stored argument. Here are the
+// records, as they are read (oracle/README.md), outcomes and the report; crate replay_tally compares and counts.
 pub mod outcome;
 pub mod pattern;
 pub mod record;
 pub mod report;
-pub mod tally;

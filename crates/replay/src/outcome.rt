@@ -2,7 +2,7 @@
 use answer::bits;
 ghost use mathlib.Core.Path.{_≡_};
 ghost use lib.Ieee.{binary64, toBits};
-ghost use Rattle.replay.specs.Outcome.{outcomeOf, same};
+ghost use Rattle.replay.specs.Outcome.{outcomeOf};
 
 // 0 and the answers' bits, or the number of the refusal and no answers. A place past the count holds 0.
 pub struct Outcome {
@@ -76,23 +76,4 @@ pub fn refused(number: u8) -> Outcome
         second: 0,
         third: 0,
     }
-}
-
-// Whether two outcomes are the same in every place.
-pub fn agree(a: Outcome, b: Outcome) -> bool
-    ensures { λ r. ⌜ r ≡ same a b ⌝ }
-{
-    if a.status != b.status {
-        return false;
-    }
-    if a.count != b.count {
-        return false;
-    }
-    if a.first != b.first {
-        return false;
-    }
-    if a.second != b.second {
-        return false;
-    }
-    a.third == b.third
 }

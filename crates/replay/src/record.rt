@@ -1,5 +1,4 @@
 // A record of a list: a head of four bytes, then a word of eight bytes, big-endian, for each argument and each answer.
-use crate::outcome::Outcome;
 use crate::pattern::value;
 use crate::report;
 use libc::STDIN_FILENO;
@@ -7,7 +6,7 @@ ghost use mathlib.Core.Path.{_≡_};
 ghost use mathlib.Core.Bool.{false};
 ghost use Prim.Native.Nat.{_+_, _*_, _≤_, _<_};
 ghost use lib.Ieee.{binary64, ofBits};
-ghost use Rattle.replay.specs.Record.{fourOf, fourAt, wordAt, storedIn, WellFormed, Ready};
+ghost use Rattle.replay.specs.Record.{fourOf, fourAt, wordAt, WellFormed, Ready};
 
 // The function's number, 0 or the number of its refusal, and how many words are arguments and answers.
 pub struct Head {
@@ -63,20 +62,6 @@ pub fn argument(words: &[u8; 96], place: usize) -> f64
     ensures { λ r. ⌜ r ≡ ofBits binary64 (wordAt (now (words .entry)) place) ⌝ }
 {
     value(word(words, place))
-}
-
-// The outcome that the record has. Where it has fewer than three answers, the words after them are 0.
-pub fn stored(head: Head, words: &[u8; 96]) -> Outcome
-    ensures { λ r. ⌜ r ≡ storedIn head (now (words .entry)) ⌝ }
-{
-    let place = head.arguments as usize;
-    Outcome {
-        status: head.status,
-        count: head.answers,
-        first: word(words, place),
-        second: word(words, place + 1),
-        third: word(words, place + 2),
-    }
 }
 
 // Whether the program has no function of this number with so many arguments. takes has a digit for each number, 0 for

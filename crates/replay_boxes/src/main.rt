@@ -14,7 +14,6 @@ use replay::record;
 use replay::record::Next;
 use replay::record::argument;
 use replay::report;
-use replay::tally;
 
 // The box in a record's first five arguments: four sides, and 1.0 where it is empty.
 fn stored_box(words: &[u8; 96]) -> CaptionBox {
@@ -102,7 +101,7 @@ fn replay_next(
         return false;
     };
     let given = outcome(head.number, &words);
-    tally::compare(names, head, &words, given, compared, differ);
+    replay_tally::compare(names, head, &words, given, compared, differ);
     true
 }
 

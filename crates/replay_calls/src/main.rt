@@ -11,7 +11,6 @@ use replay::record;
 use replay::record::Head;
 use replay::record::Next;
 use replay::report;
-use replay::tally;
 use replay_sets::compare;
 use replay_sets::given::done;
 use replay_sets::places::FACE_STORE;
@@ -80,7 +79,7 @@ fn replay_next(
         return false;
     };
     let given = outcome(head, frame, face, sphere, notes, &words);
-    tally::compare(names, head, &words, given, compared, differ);
+    replay_tally::compare(names, head, &words, given, compared, differ);
     if head.number < BUFFERS {
         let wrong = compare::wrong(frame, face, sphere, notes);
         compare::count(names, BUFFERS, wrong, compared, differ);

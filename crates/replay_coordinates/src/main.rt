@@ -7,7 +7,6 @@ use replay::outcome::Outcome;
 use replay::record;
 use replay::record::Next;
 use replay::report;
-use replay::tally;
 
 // The outcome of the function with this number.
 fn outcome(number: u8, words: &[u8; 96]) -> Outcome {
@@ -46,7 +45,7 @@ fn replay_next(
         return false;
     };
     let given = outcome(head.number, &words);
-    tally::compare(names, head, &words, given, compared, differ);
+    replay_tally::compare(names, head, &words, given, compared, differ);
     true
 }
 

@@ -1,6 +1,6 @@
 // What the stores gather, and a set beside the one that is due.
 use answer::bits;
-use replay::numbers::unlike;
+use replay_numbers::unlike;
 use set::sizes::FACE_STORE;
 use set::sizes::FRAME;
 use set::sizes::SPHERE_STORE;

@@ -12,7 +12,6 @@ use replay::record;
 use replay::record::Next;
 use replay::record::argument;
 use replay::report;
-use replay::tally;
 use sine::sin_cos;
 
 fn of_sine(given: SineAnswer) -> Outcome {
@@ -58,7 +57,7 @@ fn replay_next(
         return false;
     };
     let given = outcome(head.number, &words);
-    tally::compare(names, head, &words, given, compared, differ);
+    replay_tally::compare(names, head, &words, given, compared, differ);
     true
 }
 

@@ -1,11 +1,11 @@
 // Open on buffers of any length, and the rows of a buffer that it has written.
 use crate::tables::NO_SUCH_PLACE;
 use open_calls::open;
-use replay::numbers::unlike;
 use replay::outcome::Outcome;
 use replay::outcome::refused;
 use replay::outcome::three;
 use replay::record::word;
+use replay_numbers::unlike;
 use set::open::OpenAnswer;
 use set::sizes::FACE_STORE;
 use set::sizes::FRAME;

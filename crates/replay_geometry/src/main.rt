@@ -12,7 +12,6 @@ use replay::outcome::Outcome;
 use replay::record;
 use replay::record::Next;
 use replay::report;
-use replay::tally;
 use set::sizes::FACE_STORE;
 use set::sizes::FRAME;
 use set::sizes::SPHERE_STORE;
@@ -58,7 +57,7 @@ fn replay_next(
         return false;
     };
     let given = outcome(head.number, &words, frame, face, sphere);
-    tally::compare(names, head, &words, given, compared, differ);
+    replay_tally::compare(names, head, &words, given, compared, differ);
     true
 }
 

@@ -1,8 +1,8 @@
 // Where a call is counted.
 use replay::outcome::Outcome;
-use replay::outcome::agree;
 use replay_call::Call;
 use replay_draw::counts::count;
+use replay_tally::agree;
 ghost use Prim.Native.Nat.{_<_};
 
 // Where a call is counted: the names stand in this order. A refused one is counted seven places on.

@@ -13,7 +13,6 @@ use open_calls::open;
 use replay::record;
 use replay::record::Next;
 use replay::report;
-use replay::tally;
 use set::sizes::FACE_STORE;
 use set::sizes::FRAME;
 use set::sizes::SPHERE_STORE;
@@ -32,7 +31,7 @@ fn replay_next<'a>(
         return false;
     };
     let given = vertices::of_record(head.number, face, sphere, &words);
-    tally::compare(names, head, &words, given, compared, differ);
+    replay_tally::compare(names, head, &words, given, compared, differ);
     true
 }
 

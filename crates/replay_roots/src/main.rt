@@ -8,7 +8,6 @@ use replay::record;
 use replay::record::Next;
 use replay::record::argument;
 use replay::report;
-use replay::tally;
 
 // The outcome of the function with this number.
 fn outcome(number: u8, words: &[u8; 96]) -> Outcome {
@@ -32,7 +31,7 @@ fn replay_next(
         return false;
     };
     let given = outcome(head.number, &words);
-    tally::compare(names, head, &words, given, compared, differ);
+    replay_tally::compare(names, head, &words, given, compared, differ);
     true
 }
 

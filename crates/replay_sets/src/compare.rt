@@ -1,12 +1,11 @@
 // The set compared with the notes.
 use crate::places::FACE_AT;
 use crate::places::SPHERE_AT;
-use replay::numbers::unlike;
 use replay::outcome::Outcome;
 use replay::record::Head;
-use replay::tally;
+use replay_numbers::unlike;
 ghost use mathlib.Core.Path.{_≡_};
-ghost use Rattle.replay.specs.Alike.{AlikeFrom};
+ghost use Rattle.replay_numbers.specs.Alike.{AlikeFrom};
 
 // How many numbers of the set are not as noted, in the first buffer where one is: none only where all are.
 pub fn wrong(frame: &[f64], face: &[f64], sphere: &[f64], notes: &[f64]) -> usize
@@ -47,5 +46,5 @@ pub fn count(
         second: 0,
         third: 0,
     };
-    tally::compare(names, head, &words, given, compared, differ);
+    replay_tally::compare(names, head, &words, given, compared, differ);
 }

@@ -1,6 +1,6 @@
 // Numbers in a buffer: written and copied.
-use replay::numbers::lacks;
 use replay::record::argument;
+use replay_numbers::lacks;
 
 // The three numbers that follow a record's first argument, from a place on. Answers whether there was room.
 pub fn put_three(buffer: &mut [f64], at: usize, words: &[u8; 96]) -> bool {

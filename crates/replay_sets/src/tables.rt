@@ -1,5 +1,5 @@
 // The tables of the lists of calls that take one: they stand in the notes, and a record has a table's number.
-use replay::numbers::lacks;
+use replay_numbers::lacks;
 
 // How many there are, and of how many numbers.
 const COUNT: usize = 29;

@@ -1,8 +1,8 @@
 // Where a call is counted.
 use replay::outcome::Outcome;
-use replay::outcome::agree;
 use replay_call::Call;
 use replay_draw::counts::count;
+use replay_tally::agree;
 ghost use Prim.Native.Nat.{_<_};
 
 // The names stand in this order. A call is counted there refused or not; but a refused open is counted one place on, and so is a

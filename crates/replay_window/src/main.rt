@@ -8,7 +8,6 @@ use replay::record;
 use replay::record::Next;
 use replay::record::word;
 use replay::report;
-use replay::tally;
 use window::State;
 
 // What a record comes to, and the window's state after it.
@@ -141,7 +140,7 @@ fn replay_next(
     let done = replay_one(head.number, &words, minutes, origins, counts, state);
     let given = done.outcome;
     let after = done.state;
-    tally::compare(
+    replay_tally::compare(
         b" new add count strike",
         head,
         &words,

@@ -1,7 +1,7 @@
--- `record::stored` meets its contract. Assumes nothing.
+-- `stored` meets its contract. Assumes nothing.
 use borrow.Author.Needs.{needs}
-use Rattle.replay.proofs.record.stored.Statement.{statement}
-use Rattle.replay.proofs.record.stored.Tie as tie
+use Rattle.replay_tally.proofs.stored.Statement.{statement}
+use Rattle.replay_tally.proofs.stored.Tie as tie
 
 returns : tie.Need-returns
 returns c = rw (c .word3 .ensures, c .before .word2 .ensures, c .before .before .word .ensures)

@@ -1,11 +1,11 @@
--- `tally::count` meets its contract: the element that is stored is the one that was read, one more. Assumes nothing.
+-- `count` meets its contract: the element that is stored is the one that was read, one more. Assumes nothing.
 use Prim.Native.Nat.{ℕ}
 use mathlib.Core.Path.{ap}
 use lib.ListN.{set}
 use denote.Ref.{now}
 use borrow.Author.Needs.{needs}
-use Rattle.replay.proofs.tally.count.Statement.{statement}
-use Rattle.replay.proofs.tally.count.Tie as tie
+use Rattle.replay_tally.proofs.count.Statement.{statement}
+use Rattle.replay_tally.proofs.count.Tie as tie
 
 mul-wrapping-add-u64 : tie.Need-mul-wrapping-add-u64
 mul-wrapping-add-u64 c = search needs

@@ -4,7 +4,7 @@ ghost use mathlib.Core.Path.{_≡_};
 ghost use Prim.Native.Nat.{_+_, _≤_};
 ghost use mathlib.Core.Bool.{false};
 ghost use lib.ListN.{length};
-ghost use Rattle.replay.specs.Alike.{AlikeFrom};
+ghost use Rattle.replay_numbers.specs.Alike.{AlikeFrom};
 
 // Whether a buffer does not have so many numbers from a place on.
 pub fn lacks(buffer: &[f64], at: usize, count: usize) -> bool

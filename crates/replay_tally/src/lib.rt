@@ -1,14 +1,46 @@
-// How many outcomes of each function were compared, and how many differ. A function's number is its place in the counts.
-use crate::outcome::Outcome;
-use crate::outcome::agree;
-use crate::record::Head;
-use crate::record::stored;
-use crate::report;
+// Outcomes compared with those that the oracle's records store: how many of each function were compared, and how many
+// differ. A function's number is its place in the counts.
+use replay::outcome::Outcome;
+use replay::record::Head;
+use replay::record::word;
+use replay::report;
 ghost use mathlib.Core.Path.{_≡_};
 ghost use Prim.Native.Nat.{_<_};
-ghost use Rattle.replay.specs.Outcome.{same};
-ghost use Rattle.replay.specs.Record.{storedIn};
-ghost use Rattle.replay.specs.Tally.{counted, countedUnless, within};
+ghost use Rattle.replay_tally.specs.Compared.{same, storedIn};
+ghost use Rattle.replay_tally.specs.Tally.{counted, countedUnless, within};
+
+// Whether two outcomes are the same in every place.
+pub fn agree(a: Outcome, b: Outcome) -> bool
+    ensures { λ r. ⌜ r ≡ same a b ⌝ }
+{
+    if a.status != b.status {
+        return false;
+    }
+    if a.count != b.count {
+        return false;
+    }
+    if a.first != b.first {
+        return false;
+    }
+    if a.second != b.second {
+        return false;
+    }
+    a.third == b.third
+}
+
+// The outcome that the record has. Where it has fewer than three answers, the words after them are 0.
+fn stored(head: Head, words: &[u8; 96]) -> Outcome
+    ensures { λ r. ⌜ r ≡ storedIn head (now (words .entry)) ⌝ }
+{
+    let place = head.arguments as usize;
+    Outcome {
+        status: head.status,
+        count: head.answers,
+        first: word(words, place),
+        second: word(words, place + 1),
+        third: word(words, place + 2),
+    }
+}
 
 fn count(counts: &mut [u64; 32], number: usize)
     requires { ⌜ number < 32 ⌝ }

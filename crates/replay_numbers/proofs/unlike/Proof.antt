@@ -1,4 +1,4 @@
--- `numbers::unlike` meets its contract. The loop's invariant: while none is counted, each number that was passed is the wanted one; its
+-- `unlike` meets its contract. The loop's invariant: while none is counted, each number that was passed is the wanted one; its
 -- measure: how many numbers are left. Assumes nothing.
 use Prim.Native.Nat.{ℕ, _+_, _≤_, _<_, _-_}
 use mathlib.Core.Path.{_≡_, sym, _∙_}
@@ -7,9 +7,9 @@ use native.Mathlib.Omega.{arith}
 use lib.ListN.{length}
 use borrow.Author.Count.{below-more}
 use borrow.Author.Needs.{needs}
-use Rattle.replay.specs.Alike.{AlikeAt}
-use Rattle.replay.proofs.numbers.unlike.Statement.{statement}
-use Rattle.replay.proofs.numbers.unlike.Tie as tie
+use Rattle.replay_numbers.specs.Alike.{AlikeAt}
+use Rattle.replay_numbers.proofs.unlike.Statement.{statement}
+use Rattle.replay_numbers.proofs.unlike.Tie as tie
 
 abbrev Inv-loop : tie.InvT-loop
 Inv-loop buffer wanted at count₀ i₀ count i =

@@ -1,14 +1,14 @@
--- `tally::compare` meets its contract: a difference is counted exactly where the outcome is not that of the record. Assumes nothing.
+-- `compare` meets its contract: a difference is counted exactly where the outcome is not that of the record. Assumes nothing.
 use borrow.Author.Needs.{needs}
 use borrow.Author.Tests.{lt-ltb, le-ltb}
 use Prim.Native.Nat.{ℕ}
 use mathlib.Core.Path.{_≡_, sym, _∙_, ap}
 use mathlib.Core.Bool.{Bool, true, false}
 use mathlib.Core.List.{List}
-use Rattle.replay.specs.Outcome.{same}
-use Rattle.replay.specs.Tally.{countedUnless, within}
-use Rattle.replay.proofs.tally.compare.Statement.{statement}
-use Rattle.replay.proofs.tally.compare.Tie as tie
+use Rattle.replay_tally.specs.Compared.{same}
+use Rattle.replay_tally.specs.Tally.{countedUnless, within}
+use Rattle.replay_tally.proofs.compare.Statement.{statement}
+use Rattle.replay_tally.proofs.compare.Tie as tie
 
 -- what a test comes to, where its value is known
 decided : (b v : Bool) (counts : List ℕ) (number : ℕ) → b ≡ v → countedUnless v counts number ≡ countedUnless b counts number

@@ -1,8 +1,8 @@
--- `outcome::agree` meets its contract: one place after the other. Assumes nothing.
+-- `agree` meets its contract: one place after the other. Assumes nothing.
 use borrow.Author.Tests.{eq-eqb, ne-eqb}
-use Rattle.replay.specs.Outcome.{same}
-use Rattle.replay.proofs.outcome.agree.Statement.{statement}
-use Rattle.replay.proofs.outcome.agree.Tie as tie
+use Rattle.replay_tally.specs.Compared.{same}
+use Rattle.replay_tally.proofs.agree.Statement.{statement}
+use Rattle.replay_tally.proofs.agree.Tie as tie
 
 returns : tie.Need-returns
 unfolding same
