@@ -24,7 +24,8 @@ Inv-loop frame faces₀ spheres₀ buffer₀ out₀ at₀ reads₀ faces spheres
     × (length buffer ≡ length buffer₀)
     × (length out ≡ length out₀)
     × (at .kept ≤ length buffer)
-    × Read (length buffer₀) (length out₀) (stateOf (at₀ .stage) 0 (setOf frame faces₀ spheres₀) buffer₀) (stateOf (at .stage) (at .kept) (setOf frame faces spheres) buffer)
+    × Read (length buffer₀) (length out₀) (stateOf (at₀ .stage) 0 (setOf frame faces₀ spheres₀) buffer₀)
+    (stateOf (at .stage) (at .kept) (setOf frame faces spheres) buffer)
     × (at .ended ≡ false → Counted reads (at .stage) (at .kept))
 
 abbrev μ-loop : tie.MeasureT-loop
