@@ -1,4 +1,5 @@
 // Refusals and their numbers, and the checks of one number (document 01, "Calls and their numbers"); the bits of a number.
+#![tactic(auto)]
 ghost use Rattle.std.specs.Prelude.{◌≡◌};
 ghost use Rattle.std.specs.Float.{binary64};
 ghost use Rattle.std.specs.Float.Ieee.{to_bits};
@@ -7,7 +8,7 @@ ghost use Rattle.answer.specs.Answer.{number_of, given_check};
 ghost use Rattle.answer.specs.Number.{is_finite, check_number};
 
 // Why a call refuses, with its number: those of document 01's table in its order, and then document 02's.
-#[derive(Drop)]
+#[derive(Clone, Copy)]
 pub enum Refusal {
     // 1: the frame isn't 186 numbers
     FrameLength,
@@ -98,7 +99,7 @@ pub fn number(r: Refusal) -> u8
 }
 
 // What a check of arguments comes to, and a call whose answer carries no value: passed, or the refusal.
-#[derive(Drop)]
+#[derive(Clone, Copy)]
 pub enum Check {
     Passed,
     Refused(Refusal),

@@ -1,5 +1,6 @@
 // Core (document 01, "Elementary steps"): the angle of a tangent in 0..1, alone, of two tangents at
 // once, and beside a square root.
+#![tactic(auto)]
 ghost use Rattle.std.specs.Prelude.{◌≡◌};
 ghost use Rattle.arithmetic.specs.Arith.{ieee};
 ghost use Rattle.arithmetic.specs.Sqrt.{sqrt};
@@ -44,14 +45,14 @@ fn halved(t: f64) -> f64
 }
 
 // What one step gives for two arguments.
-#[derive(Drop)]
+#[derive(Clone, Copy)]
 pub struct Both {
     pub first: f64,
     pub second: f64,
 }
 
 // An angle, and the square root that is found beside it.
-#[derive(Drop)]
+#[derive(Clone, Copy)]
 pub struct AngleAndRoot {
     pub angle: f64,
     pub root: f64,

@@ -5,7 +5,7 @@ use native.Mathlib.Nat.{le_trans, le_of_eq, le_antisymm, lt_of_lt_of_le, lt_of_l
 use native.Mathlib.Omega.{arith}
 use lib.Pow.{pow-add, pow_mono, pow-lt, shl_lt}
 use lib.Ieee.{size}
-use lib.Ieee.Digits.{size-lt, size_le}
+use lib.Ieee.Digits.{size-lt, size-le}
 
 pub apart : (w i j k : ℕ) → i ≡ j + k → w * 2 ^ i ≡ w * 2 ^ j * 2 ^ k
 apart w i j k e = ap (λ n. w * 2 ^ n) e ∙ ap (λ n. w * n) (pow-add 2 j k) ∙ sym (mul_assoc w (2 ^ j) (2 ^ k))
@@ -20,7 +20,7 @@ power_le i j h = le_of_not_lt (λ g. not-le_of_lt (pow-lt g) h)
     le_of_not_lt h = omega arith
 
 pub size_is : (n p : ℕ) → 2 ^ p ≤ n → n < 2 ^ suc p → size n ≡ suc p
-size_is n p lo hi = le_antisymm (size_le n (suc p) hi) (power_lt p (size n) (lt_of_le_of_lt lo (size-lt n)))
+size_is n p lo hi = le_antisymm (size-le n (suc p) hi) (power_lt p (size n) (lt_of_le_of_lt lo (size-lt n)))
 
 -- n has p + 1 digits, so n * 2 ^ k has k more
 module _ (n p k : ℕ) (lo : 2 ^ p ≤ n) (hi : n < 2 ^ suc p) where

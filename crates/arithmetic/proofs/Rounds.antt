@@ -12,7 +12,7 @@ use lib.IntN.{ℤ, pos, negsuc}
 use lib.Dec.{T, eqb, ltb, leb, eqb→eq, lit<}
 use lib.Pow.{pow-add, pow_pos}
 use lib.Ieee.{Float, nan, inf, fin, binary64, up, down, span, climb, size, fits}
-use lib.Ieee.Digits.{size-lt, size_le}
+use lib.Ieee.Digits.{size-lt, size-le}
 use lib.Ieee.Exact.{HasValue}
 use lib.Ieee.Fits.{up_pos, and_l}
 use lib.Ieee.Positive.{positive}
@@ -249,7 +249,7 @@ fin_least m e f = by r (eqb (r * r) (suc m)) (eqb (height e % 2) 0) refl refl re
     fewer r d q x =
         let a = apart_square m e f d x in
         let same : r ≡ a.0 = floor_unique (suc m) r a.0 (exact_floor r (suc m) q) (exact_floor a.0 (suc m) a.1) in
-        size_le r d (subst (λ (u : ℕ). u < 2 ^ d) (sym same) a.3)
+        size-le r d (subst (λ (u : ℕ). u < 2 ^ d) (sym same) a.3)
 
     by : (r : ℕ) (b c : Bool) → r ≡ root_from 27 (suc m) 0 → eqb (r * r) (suc m) ≡ b → eqb (height e % 2) 0 ≡ c
         → LeastDigits (fin false (suc m) e) (cond (b && c) (size r) 53)
@@ -302,7 +302,7 @@ exact_few (fin false (suc m) e) f p d x =
     let a = apart_square m e f d x in
     let small : suc m < 2 ^ 27 * 2 ^ 27 = omega (arith, (fitting binary64 false (suc m) e f).small) in
     let below : a.0 < 2 ^ 27 = lt_of_squares a.0 (2 ^ 27) (subst (λ (n : ℕ). n < 2 ^ 27 * 2 ^ 27) (sym a.1) small) in
-    le_trans (le_of_eq (exact (suc m) (height e) small a.0 a.1 a.2)) (size_le a.0 27 below)
+    le_trans (le_of_eq (exact (suc m) (height e) small a.0 a.1 a.2)) (size-le a.0 27 below)
 
 -- so 53 says that there is no exact root, and nothing else
 pub rounds_53 : (x : Float) → T (fits binary64 x) → sqrt_rounds x ≡ 53 → (d : ℕ) → ExactWith x d → ⊥

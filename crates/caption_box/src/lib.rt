@@ -1,5 +1,6 @@
 // The caption box (document 02, Paper 3): the smallest upright rectangle round the face points taken
 // in so far. The work is done on boxes by value; `take_in`, which is lent a box, is thin.
+#![tactic(auto)]
 ghost use Rattle.std.specs.Prelude.{◌≡◌};
 ghost use Rattle.answer.specs.Answer.{given_check};
 ghost use Rattle.caption_box.specs.Sides.{new_box, replaced, below, above, grown, TakesIn};
@@ -10,7 +11,7 @@ use coordinates::coords::Face;
 
 // The least and greatest coordinates taken in. Where it is empty the four sides mean nothing.
 #[repr(C)]
-#[derive(Drop)]
+#[derive(Clone, Copy)]
 pub struct CaptionBox {
     pub least_x: f64,
     pub greatest_x: f64,
@@ -76,7 +77,7 @@ pub fn grow(caption: CaptionBox, point: Face) -> CaptionBox
 }
 
 // What taking a point in comes to: 5 or 6 of the point, and the box afterwards.
-#[derive(Drop)]
+#[derive(Clone, Copy)]
 pub struct Outcome {
     pub check: Check,
     pub caption: CaptionBox,

@@ -2,8 +2,8 @@
 
 // Laid out as in C, since a list of positions is lent by C programs too.
 #[repr(C)]
-#[derive(Drop)]
+#[derive(Clone, Copy)]
 pub struct Degrees(pub f64);
 
-#[derive(Drop)]
+#[derive(Clone, Copy)]
 pub struct Radians(pub f64);

@@ -10,19 +10,19 @@ use crate::lonlat::LonLat;
 use crate::spherical::Spherical;
 use answer::{Check, Refusal};
 
-#[derive(Drop)]
+#[derive(Clone, Copy)]
 pub enum SphericalAnswer {
     Answered(Spherical),
     Refused(Refusal),
 }
 
-#[derive(Drop)]
+#[derive(Clone, Copy)]
 pub enum LonLatAnswer {
     Answered(LonLat),
     Refused(Refusal),
 }
 
-#[derive(Drop)]
+#[derive(Clone, Copy)]
 pub enum FaceAnswer {
     Answered(Face),
     Refused(Refusal),

@@ -5,31 +5,31 @@ use crate::vec3::Vec3;
 
 // A point in the plane of a face, whose centre is (0, 0). Laid out as in C, where it is two doubles.
 #[repr(C)]
-#[derive(Drop)]
+#[derive(Clone, Copy)]
 pub struct Face(pub Vec2);
 
 // 3D coordinate systems
 
-#[derive(Drop)]
+#[derive(Clone, Copy)]
 pub struct Cartesian(pub Vec3);
 
 // Barycentric coordinates and triangle types
 
-#[derive(Drop)]
+#[derive(Clone, Copy)]
 pub struct Barycentric {
     pub u: f64,
     pub v: f64,
     pub w: f64,
 }
 
-#[derive(Drop)]
+#[derive(Clone, Copy)]
 pub struct FaceTriangle {
     pub a: Face,
     pub b: Face,
     pub c: Face,
 }
 
-#[derive(Drop)]
+#[derive(Clone, Copy)]
 pub struct SphericalTriangle {
     pub a: Cartesian,
     pub b: Cartesian,

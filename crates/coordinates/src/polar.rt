@@ -1,6 +1,6 @@
 use crate::base::Radians;
 
-#[derive(Drop)]
+#[derive(Clone, Copy)]
 pub struct Polar {
     pub rho: f64,
     pub gamma: Radians,

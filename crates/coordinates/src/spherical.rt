@@ -1,7 +1,7 @@
 use crate::base::Radians;
 
 // theta is the azimuth, phi the angle from the north pole.
-#[derive(Drop)]
+#[derive(Clone, Copy)]
 pub struct Spherical {
     pub theta: Radians,
     pub phi: Radians,

@@ -10,7 +10,7 @@ use coordinates::coords::Cartesian;
 use coordinates::vec3::Vec3;
 
 // What a lookup comes to: the row, or the refusal.
-#[derive(Drop)]
+#[derive(Clone, Copy)]
 pub enum VertexAnswer {
     Answered(Cartesian),
     Refused(Refusal),

@@ -3,13 +3,13 @@ use answer::Refusal;
 use coordinates::coords::Face;
 
 // A face point and the id of the origin whose face it lies on.
-#[derive(Drop)]
+#[derive(Clone, Copy)]
 pub struct Place {
     pub origin: u8,
     pub face: Face,
 }
 
-#[derive(Drop)]
+#[derive(Clone, Copy)]
 pub enum PlaceAnswer {
     Answered(Place),
     Refused(Refusal),

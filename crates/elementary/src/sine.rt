@@ -1,14 +1,14 @@
 // What sine, cosine and tangent answer (crate sine).
 
 // Sine and cosine of one angle.
-#[derive(Drop)]
+#[derive(Clone, Copy)]
 pub struct SinCos {
     pub sin: f64,
     pub cos: f64,
 }
 
 // A sine, cosine or tangent.
-#[derive(Drop)]
+#[derive(Clone, Copy)]
 pub enum SineAnswer {
     Value(f64),
     // the argument is finite and beyond ±64
@@ -16,7 +16,7 @@ pub enum SineAnswer {
 }
 
 // Both at once.
-#[derive(Drop)]
+#[derive(Clone, Copy)]
 pub enum SinCosAnswer {
     Value(SinCos),
     // the argument is finite and beyond ±64

@@ -16,14 +16,14 @@ use square_root::root::sqrt;
 use vector::{dot, normalize, scale, scale_and_add};
 
 // A point of the sphere, or refusal 19.
-#[derive(Drop)]
+#[derive(Clone, Copy)]
 pub enum PointAnswer {
     Answered(Cartesian),
     Refused(Refusal),
 }
 
 // What the maps take from the one canonical triangle: all face triangles are congruent.
-#[derive(Drop)]
+#[derive(Clone, Copy)]
 pub struct TriangleConstants {
     pub a_dot_b: f64,
     pub a_dot_c: f64,
@@ -35,7 +35,7 @@ pub struct TriangleConstants {
 }
 
 // Six numbers of the triangle, by their names in the Rust.
-#[derive(Drop)]
+#[derive(Clone, Copy)]
 pub struct AlphaTransform {
     pub c1c: f64,
     pub c2c: f64,

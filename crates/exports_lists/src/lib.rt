@@ -1,6 +1,7 @@
 // A list of positions placed in one call, as C functions. Crate exports has the calls on a set; these go into the same
 // library, and what is said there of pointers and lengths holds here too. A position and a result are the structs that
 // bindings/a5.h has as a5_position and a5_result.
+#![tactic(auto)]
 pub mod tables;
 
 ghost use Rattle.std.specs.Prelude.{◌≡◌};

@@ -2,6 +2,7 @@
 // crate exports_tables. Crate exports has the calls on a set; these go into the same library, and what is said there of pointers
 // and lengths holds here too. A position, a point and a box are the structs that bindings/a5.h has as a5_position, a5_point and
 // a5_box.
+#![tactic(auto)]
 ghost use Rattle.std.specs.Prelude.{◌≡◌};
 ghost use Rattle.arithmetic.specs.Arith.{ieee};
 ghost use Rattle.origin.specs.Origins.{ORIGINS};

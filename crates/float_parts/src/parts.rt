@@ -3,7 +3,7 @@ ghost use Rattle.std.specs.Prelude.{◌≡◌};
 ghost use Rattle.float_parts.specs.Parts.{digits, places};
 
 // A finite value with no sign is m * 2^h of the smallest ones, 2^-1074.
-#[derive(Drop)]
+#[derive(Clone, Copy)]
 pub struct Parts {
     pub m: u64,
     pub h: u64,

@@ -1,4 +1,5 @@
 // Paper 5: an addition to a window that is lent. None of its arrays is copied.
+#![tactic(auto)]
 ghost use Rattle.window.specs.Addition.{AddedTo};
 
 use answer::Check;

@@ -1,4 +1,5 @@
 // The origin nearest to a point as calls: with the built-in table, and with another.
+#![tactic(auto)]
 ghost use Rattle.std.specs.Prelude.{◌≡◌};
 ghost use Rattle.arithmetic.specs.Arith.{ieee};
 ghost use Rattle.origin.specs.Origins.{ORIGINS};
@@ -10,7 +11,7 @@ use nearest::{find_nearest_in, find_nearest_origin};
 use origin::table::check_rows;
 
 // What nearest comes to: an origin's id, or the refusal.
-#[derive(Drop)]
+#[derive(Clone, Copy)]
 pub enum OriginAnswer {
     Answered(u8),
     Refused(Refusal),

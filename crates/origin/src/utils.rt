@@ -3,7 +3,7 @@ use coordinates::base::Radians;
 use coordinates::spherical::Spherical;
 
 // A rotation: a unit quaternion, w its real part.
-#[derive(Drop)]
+#[derive(Clone, Copy)]
 pub struct Quat {
     pub x: f64,
     pub y: f64,
@@ -13,7 +13,7 @@ pub struct Quat {
 
 // One face of the dodecahedron: its axis, the rotation that takes the north pole there, and its turn
 // about the axis.
-#[derive(Drop)]
+#[derive(Clone, Copy)]
 pub struct Origin {
     pub axis: Spherical,
     pub quat: Quat,

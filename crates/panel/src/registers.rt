@@ -3,7 +3,7 @@ use coordinates::coords::Face;
 use coordinates::lonlat::LonLat;
 
 // What a block asks for: nothing, place, unplace on an origin, or a command that there isn't.
-#[derive(Drop)]
+#[derive(Clone, Copy)]
 pub enum Command {
     Nothing,
     Place(LonLat),

@@ -26,7 +26,7 @@ use table_calls::place_with;
 
 // What the call comes to: its answer, how many points are to be handed out, and the points. Where it is refused that is none, and the
 // points mean nothing.
-#[derive(Drop)]
+#[derive(Clone, Copy)]
 pub struct RegionWork {
     pub answer: RegionAnswer,
     pub count: usize,

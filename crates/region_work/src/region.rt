@@ -3,13 +3,13 @@ use answer::Refusal;
 use caption_box::CaptionBox;
 
 // The origin on whose face all positions lie, and the box round their face points.
-#[derive(Drop)]
+#[derive(Clone, Copy)]
 pub struct Region {
     pub origin: u8,
     pub bounds: CaptionBox,
 }
 
-#[derive(Drop)]
+#[derive(Clone, Copy)]
 pub enum RegionAnswer {
     Answered(Region),
     Refused(Refusal),

@@ -5,7 +5,7 @@ use coordinates::coords::Face;
 
 // What is known of the positions worked out so far: the first one's origin, whether another differs from it, whether a slot that
 // one of them uses is empty, and the box round their face points.
-#[derive(Drop)]
+#[derive(Clone, Copy)]
 pub struct Seen {
     pub origin: u8,
     pub differ: bool,

@@ -6,7 +6,7 @@ ghost use Rattle.replay.specs.Outcome.{outcome_of};
 use answer::bits;
 
 // 0 and the answers' bits, or the number of the refusal and no answers. A place past the count holds 0.
-#[derive(Drop)]
+#[derive(Clone, Copy)]
 pub struct Outcome {
     pub status: u8,
     pub count: u8,

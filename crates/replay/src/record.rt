@@ -8,7 +8,7 @@ use crate::report;
 use libc::STDIN_FILENO;
 
 // The function's number, 0 or the number of its refusal, and how many words are arguments and answers.
-#[derive(Drop)]
+#[derive(Clone, Copy)]
 pub struct Head {
     pub number: u8,
     pub status: u8,
@@ -17,7 +17,7 @@ pub struct Head {
 }
 
 // A record, or that none follows: the list has ended, or is malformed, which is then said.
-#[derive(Drop)]
+#[derive(Clone, Copy)]
 pub enum Next {
     Record(Head),
     Done,

@@ -1,6 +1,7 @@
 // Reads the oracle's list (oracle/README.md) from standard input, asks crate caption_box at each stored box and point,
 // and compares the boxes bit for bit. It writes a line for each function: how many outcomes were compared, and how many
 // differ.
+#![tactic(auto)]
 mod lent;
 
 use answer::Check;

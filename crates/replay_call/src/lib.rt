@@ -1,4 +1,5 @@
 // A call that is lent the set, with its other arguments, the set that it leaves, and what it comes to, as an outcome.
+#![tactic(auto)]
 pub mod lists;
 mod mixed;
 pub mod nearby;
@@ -18,7 +19,7 @@ use set::open::OpenAnswer;
 use show::{SlotState, StoreKind};
 
 // A call, without the table that it takes.
-#[derive(Drop)]
+#[derive(Clone, Copy)]
 pub enum Call {
     Open,
     Forward(Spherical, u8),

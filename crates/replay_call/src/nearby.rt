@@ -8,7 +8,7 @@ use coordinates::lonlat::LonLat;
 use replay_lent::{lists, regions};
 
 // How many positions near a first one, how far they lie apart, and how many results or points are lent with them.
-#[derive(Drop)]
+#[derive(Clone, Copy)]
 pub struct Nearby {
     pub start: LonLat,
     pub stride: LonLat,

@@ -9,7 +9,7 @@ pub const OPEN: u8 = 5;
 
 pub const LENT: u8 = 6;
 
-#[derive(Drop)]
+#[derive(Clone, Copy)]
 pub struct Lent {
     pub call: u8,
     pub frame: u64,

@@ -1,6 +1,7 @@
 // Reads the oracle's list (oracle/README.md) from standard input, asks crate coordinates at each stored argument, and
 // compares the outcomes bit for bit. It writes a line for each function: how many outcomes were compared, and how many
 // differ. It shows the first three records of each function that differ, and says so where the list is malformed.
+#![tactic(auto)]
 mod ask;
 
 use replay::outcome::Outcome;

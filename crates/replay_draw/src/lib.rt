@@ -1,4 +1,5 @@
 // The calls of long lists, drawn from a fixed seed, what is due after them, and the counts, for both programs that run such lists.
+#![tactic(auto)]
 pub mod counts;
 pub mod draw;
 pub mod slots;

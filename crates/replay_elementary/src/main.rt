@@ -2,6 +2,7 @@
 // stored argument, and compares the answers bit for bit. It writes a line for each function: how many answers were compared, and
 // how many differ. It shows the first three records of each function that differ, and says so where the list is
 // malformed.
+#![tactic(auto)]
 use elementary::sine::{SinCosAnswer, SineAnswer};
 use replay::outcome::{Outcome, one, refused, two};
 use replay::record::{Next, argument};

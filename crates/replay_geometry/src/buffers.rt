@@ -31,7 +31,7 @@ pub fn row(buffer: &[f64], words: &[u8; 96]) -> Outcome {
 }
 
 // What open answered, 0 or the refusal's number, and how many numbers it changed in each buffer.
-#[derive(Drop)]
+#[derive(Clone, Copy)]
 struct Effect {
     status: u8,
     frame: usize,

@@ -2,6 +2,7 @@
 // open has just written with it, and asks nearest and the functions on triangles at each stored argument, bit for bit. It
 // writes a line for each function: how many outcomes were compared, and how many differ. It shows the first three records
 // of each function that differ, and says so where the list is malformed.
+#![tactic(auto)]
 mod ask;
 mod buffers;
 mod tables;

@@ -4,6 +4,7 @@
 // those calls have written there since the last open: after each call the set's stores must equal them in every number,
 // and its frame the first open's. Last the oracle's list (oracle/README.md) is read from standard input, each of its
 // vertices compared with what show hands back, and each b × c with what stands behind them in the sphere store.
+#![tactic(auto)]
 mod counts;
 mod due;
 mod lists;

@@ -1,5 +1,6 @@
 // Replays the oracle's stored lists of positions (Paper 1): each is placed by one call on a set, with a table or without one, and the call's
 // status, every result, the result behind those that are lent and the whole set are compared with the stored ones. oracle/README.md has the records.
+#![tactic(auto)]
 mod arrays;
 mod ask;
 mod set_up;

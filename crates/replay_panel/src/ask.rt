@@ -9,7 +9,7 @@ use table_panel::step_with;
 
 // What is asked: 0 a step, 1 a step with a table, 2 that the set is opened with a table. Which buffers are lent without their
 // last number: 1 the frame, 2 the face store, 4 the sphere store, or a sum of these.
-#[derive(Drop)]
+#[derive(Clone, Copy)]
 pub(crate) struct Head {
     pub(crate) asked: u8,
     pub(crate) short: u8,

@@ -2,6 +2,7 @@
 // set, which it opens first and again with a table where a record says so, and compares the status and all bytes of the block,
 // also those that were not lent. It writes how many were compared and how many differ, by what was asked and the stored
 // status, names each record that differs, and says so where the list is malformed.
+#![tactic(auto)]
 mod ask;
 mod tables;
 

@@ -1,4 +1,5 @@
 // What a call comes to on a set with the built-in table.
+#![tactic(auto)]
 mod lists;
 mod regions;
 mod steps;

@@ -1,5 +1,6 @@
 // Replays the oracle's stored regions (Paper 4): each is one call on a set, with a table or without one, and the call's status and origin,
 // every point, the point behind those that are lent, the box and the whole set are compared with the stored ones. oracle/README.md has the records.
+#![tactic(auto)]
 mod arrays;
 mod ask;
 mod set_up;

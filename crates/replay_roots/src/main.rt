@@ -1,6 +1,7 @@
 // Reads the oracle's list of roots (oracle/README.md) from standard input, asks crate square_root at each stored number, and
 // compares the root bit for bit and the rounds. It writes a line for each function: how many answers were compared, and how
 // many differ.
+#![tactic(auto)]
 use replay::outcome::{Outcome, one, whole};
 use replay::record::{Next, argument};
 use replay::{record, report};

@@ -1,12 +1,13 @@
 // Reads the oracle's windows and their pages (oracle/README.md) from standard input, prints each from its counts, and
 // compares what the call gives and every byte of the room that the page is a part of. It writes how many were compared and
 // how many differ, names each that differs, and says so where the list is malformed.
+#![tactic(auto)]
 ghost use Rattle.std.specs.Prelude.{◌≡◌, ◌<◌};
 
 use libc::{STDIN_FILENO, STDOUT_FILENO};
 
 // What a record comes to.
-#[derive(Drop)]
+#[derive(Clone, Copy)]
 enum Next {
     Agrees,
     Differs,

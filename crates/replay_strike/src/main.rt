@@ -2,6 +2,7 @@
 // in pieces of 1, 3 and 10 bytes and whole, and compares the lines byte for byte. It writes how many
 // sessions were compared and how many runs differ, names each run that differs, and says so where
 // the list is malformed.
+#![tactic(auto)]
 ghost use Rattle.std.specs.Prelude.{◌≡◌, ◌≤◌, min, length};
 
 use libc::{STDIN_FILENO, STDOUT_FILENO};
@@ -10,14 +11,14 @@ use strike_feed::feed;
 use strike_session::session::{Stage, begin, finish};
 
 // A part of the list: whether there is one, and how many bytes it has.
-#[derive(Drop)]
+#[derive(Clone, Copy)]
 struct Part {
     is_there: bool,
     count: usize,
 }
 
 // A session: where it stands, how many bytes of its input were taken, and how many were written.
-#[derive(Drop)]
+#[derive(Clone, Copy)]
 struct Standing {
     stage: Stage,
     taken: usize,

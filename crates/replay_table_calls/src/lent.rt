@@ -9,7 +9,7 @@ const LENT: u8 = 6;
 
 pub const NEAREST: u8 = 7;
 
-#[derive(Drop)]
+#[derive(Clone, Copy)]
 pub struct Lent {
     pub call: u8,
     pub frame: u64,

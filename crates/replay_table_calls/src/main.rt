@@ -1,5 +1,6 @@
 // Replays the oracle's stored list of the calls with a table: open, forward, inverse, place and unplace on a set, and nearest. After
 // each of them the whole set is compared with what it should hold. oracle/README.md has the records.
+#![tactic(auto)]
 mod ask;
 mod lent;
 mod notes;

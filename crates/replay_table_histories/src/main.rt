@@ -3,6 +3,7 @@
 // with that table too, and must come to the same there, bit for bit, with every result, point and byte that it leaves. Two stores
 // gather what those calls have written there since the last open that answered: after each call the set's stores must equal them in
 // every number, and its frame that open's.
+#![tactic(auto)]
 mod counts;
 mod due;
 mod lists;

@@ -2,6 +2,7 @@
 // place, and compares the status and the bits of all 84 numbers: a refused file must leave the table. A table that is loaded
 // is saved again, and must give the same bytes. It writes how many files were compared and how many differ, by the
 // stored status, names each record that differs, and says so where the list is malformed.
+#![tactic(auto)]
 ghost use Rattle.std.specs.Prelude.{◌+◌, ◌<◌, ◌≤◌};
 
 use libc::{STDIN_FILENO, STDOUT_FILENO};
@@ -119,7 +120,7 @@ fn fill(room: &mut [u8]) -> bool {
 }
 
 // What became of a record.
-#[derive(Drop)]
+#[derive(Clone, Copy)]
 enum Replayed {
     CutOff,
     Agrees,

@@ -1,5 +1,6 @@
 // Outcomes compared with those that the oracle's records store: how many of each function were compared, and how many
 // differ. A function's number is its place in the counts.
+#![tactic(auto)]
 ghost use Rattle.std.specs.Prelude.{◌≡◌, ◌<◌};
 ghost use Rattle.replay_tally.specs.Compared.{same, stored_in};
 ghost use Rattle.replay_tally.specs.Tally.{counted, counted_unless, within};

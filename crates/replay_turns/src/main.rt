@@ -1,6 +1,7 @@
 // Reads the oracle's turns (oracle/README.md) from standard input, hands each out, and compares the status and all places
 // for grants, also those that were not lent. It writes how many turns were compared and how many differ, by the stored
 // status, names each record that differs, and says so where the list is malformed.
+#![tactic(auto)]
 ghost use Rattle.std.specs.Prelude.{◌≡◌, ◌+◌, ◌*◌, ◌<◌, ◌≤◌, true, length};
 
 use libc::{STDIN_FILENO, STDOUT_FILENO};

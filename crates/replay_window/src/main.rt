@@ -2,20 +2,21 @@
 // compares what it gives, and where the list asks for it the counts, the number kept and single strikes of the ring. It
 // writes a line for each function: how many outcomes were compared, and how many differ. It shows the first three records
 // of each function that differ, and says so where the list is malformed.
+#![tactic(auto)]
 use replay::outcome::{Outcome, refused};
 use replay::record::{Next, word};
 use replay::{record, report};
 use window::State;
 
 // What a record comes to, and the window's state after it.
-#[derive(Drop)]
+#[derive(Clone, Copy)]
 struct Replayed {
     outcome: Outcome,
     state: State,
 }
 
 // Whether there was a record, and the window's state after it.
-#[derive(Drop)]
+#[derive(Clone, Copy)]
 struct Progress {
     is_there: bool,
     state: State,

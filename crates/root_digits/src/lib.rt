@@ -1,5 +1,6 @@
 // The binary digits of a square root, one a round from its first 1 on, until none is left or those found are the exact root (Paper 2), and
 // the whole number nearest to it.
+#![tactic(auto)]
 ghost use Rattle.std.specs.Prelude.{◌≡◌, ◌+◌, ◌-◌, ◌*◌, ◌^◌, ◌<◌, ◌≤◌, if◌then◌else◌, nat_le};
 ghost use Rattle.arithmetic.specs.Sqrt.{nearest_root};
 ghost use Rattle.root_digits.specs.Digits.{Marked, Found, Ended, FoundBoth};
@@ -29,7 +30,7 @@ fn following(y: u64, t: u64, r: u64) -> u64
 // The digits of the root of m * 2^52 so far. With q for the digits found, zeros after them, and w for the weight of the last,
 // t is 4 * q + w, y is four times what q's square leaves of m * 2^52, in units of w, so that it stays below 2^57 and one word
 // is enough, and r is w / 2, the weight of the next digit. That digit is 1 where y is at least t.
-#[derive(Drop)]
+#[derive(Clone, Copy)]
 pub struct Digits {
     pub t: u64,
     pub y: u64,
@@ -71,7 +72,7 @@ pub fn digits_from(m: u64, found: Digits) -> Digits
 }
 
 // The digits of two roots, as far as they are found together.
-#[derive(Drop)]
+#[derive(Clone, Copy)]
 pub struct Two {
     pub first: Digits,
     pub second: Digits,

@@ -1,4 +1,5 @@
 // Show and its companion: what a slot of a set's stores holds. Both only read.
+#![tactic(auto)]
 ghost use Rattle.std.specs.Prelude.{◌≡◌, ◌+◌, ◌<◌, ◌≤◌, length};
 ghost use Rattle.answer.specs.Given.{answered};
 ghost use Rattle.stores.specs.Slots.{filled};
@@ -11,14 +12,14 @@ use set::sizes::{
 };
 
 // The store that a slot number is of.
-#[derive(Drop)]
+#[derive(Clone, Copy)]
 pub enum StoreKind {
     Face,
     Sphere,
 }
 
 // What the companion answers of a slot.
-#[derive(Drop)]
+#[derive(Clone, Copy)]
 pub enum SlotState {
     Filled,
     Empty,

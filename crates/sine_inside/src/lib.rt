@@ -1,5 +1,6 @@
 // Sine, cosine and tangent of an argument that is proved not to be outside: finite numbers beyond ±64
 // are (Paper 7). An angle is reduced to what is left of it after quarter turns.
+#![tactic(auto)]
 ghost use Rattle.std.specs.Prelude.{◌≡◌, true, false};
 ghost use Rattle.std.specs.Float.{binary64};
 ghost use Rattle.std.specs.Float.Ieee.{mul, rem, lt};
@@ -43,7 +44,7 @@ fn size(q: f64) -> f64
 }
 
 // The whole number of quarter turns nearest to an angle within a turn, and that number mod 4.
-#[derive(Drop)]
+#[derive(Clone, Copy)]
 struct Nearest {
     pub n: f64,
     pub quarter: u64,
@@ -72,7 +73,7 @@ fn quarters(y: f64) -> Nearest
 }
 
 // What is left of an angle after n quarter turns.
-#[derive(Drop)]
+#[derive(Clone, Copy)]
 struct Angle {
     r: f64,
     quarter: u64,

@@ -1,4 +1,5 @@
 // Writing a slot: its mark and its numbers, where it is empty.
+#![tactic(auto)]
 ghost use Rattle.std.specs.Prelude.{◌≡◌, ◌∷◌, ◌+◌, ◌<◌, ◌≤◌, length};
 ghost use Rattle.arithmetic.specs.Numbers.{1·0};
 ghost use Rattle.arithmetic.specs.Arith.{ieee};

@@ -1,4 +1,5 @@
 // The area of a spherical triangle (spherical_polygon.rs of the Rust).
+#![tactic(auto)]
 ghost use Rattle.std.specs.Prelude.{◌≡◌, true};
 ghost use Rattle.std.specs.Float.{binary64};
 ghost use Rattle.std.specs.Float.Ieee.{of_bits};
@@ -44,7 +45,7 @@ pub fn spherical_triangle_area(v1: Cartesian, v2: Cartesian, v3: Cartesian) -> R
 }
 
 // An area, and the square root that is found beside it.
-#[derive(Drop)]
+#[derive(Clone, Copy)]
 pub struct AreaAndRoot {
     pub area: Radians,
     pub root: f64,

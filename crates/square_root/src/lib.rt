@@ -1,2 +1,3 @@
 // The square root. Each public function is total and has no requires.
+#![tactic(auto)]
 pub mod root;

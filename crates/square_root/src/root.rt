@@ -27,7 +27,7 @@ fn pattern(x: f64) -> u64
 }
 
 // The value m * 2^h of the smallest ones, 2^-1074, as a * 2^g in units of 2^-1126, where a has the full width of 53 digits.
-#[derive(Drop)]
+#[derive(Clone, Copy)]
 struct Wide {
     a: u64,
     g: u64,
@@ -48,7 +48,7 @@ fn widened(m: u64, h: u64) -> Wide
 }
 
 // The value m * 4^e in units of 2^-1126, where m has 53 or 54 digits: an odd exponent gives the number one digit more.
-#[derive(Drop)]
+#[derive(Clone, Copy)]
 struct Number {
     m: u64,
     e: u64,
@@ -83,7 +83,7 @@ fn root_elsewhere(x: f64) -> f64
 }
 
 // The root of a value, and the rounds that its digits took.
-#[derive(Drop)]
+#[derive(Clone, Copy)]
 struct RootAndRounds {
     root: f64,
     rounds: u32,
@@ -125,7 +125,7 @@ pub fn sqrt_rounds(x: f64) -> u32
 }
 
 // The square roots of two values.
-#[derive(Drop)]
+#[derive(Clone, Copy)]
 pub struct Roots {
     pub first: f64,
     pub second: f64,

@@ -4,7 +4,7 @@ use coordinates::coords::{Cartesian, SphericalTriangle};
 // The slots that a call uses are told by origin, index and reflection; the sphere triangle is the
 // one that it took, and bxc is B × C that belongs to it: from the same slot, or formed where that is
 // empty.
-#[derive(Drop)]
+#[derive(Clone, Copy)]
 pub struct Used {
     pub origin: u8,
     pub index: u8,

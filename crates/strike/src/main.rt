@@ -1,5 +1,6 @@
 // The strike program: reads a session from standard input and writes its lines to standard output.
 // A write that fails ends the program.
+#![tactic(auto)]
 ghost use Rattle.std.specs.Prelude.{◌≡◌, ◌≤◌, length};
 ghost use Rattle.set.specs.Outcome.{lent};
 ghost use Rattle.strike_reads.specs.Steps.{Begins, Roomy, state_of, begun, Ended};
@@ -11,7 +12,7 @@ use strike_session::session::{Stage, begin, finish};
 
 // A session behind all its reads: where it stands, how many bytes of the buffer were not taken, how
 // many bytes its last line has, and whether lines before it are lost.
-#[derive(Drop)]
+#[derive(Clone, Copy)]
 struct Last {
     stage: Stage,
     kept: usize,

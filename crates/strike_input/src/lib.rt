@@ -1,4 +1,5 @@
 // The strike program's input, read to its end step by step.
+#![tactic(auto)]
 ghost use Rattle.std.specs.Prelude.{◌≡◌, true, ◌≤◌, length};
 ghost use Rattle.set.specs.Outcome.{lent};
 ghost use Rattle.strike_reads.specs.Steps.{Begins, Roomy, state_of, Read};

@@ -1,5 +1,6 @@
 // The strike program's reads: what they come to, for whatever bytes they bring (specs/Steps), and a read behind the bytes that
 // are kept. A read that fails counts as the input's end.
+#![tactic(auto)]
 ghost use Rattle.std.specs.Prelude.{◌≡◌, ◌+◌, ◌≤◌, ◌<◌, length, take};
 
 use libc::STDIN_FILENO;

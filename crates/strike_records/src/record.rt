@@ -10,7 +10,7 @@ use coordinates::lonlat::LonLat;
 use coordinates::vec2::Vec2;
 
 // What a record asks for: place, or unplace on an origin.
-#[derive(Drop)]
+#[derive(Clone, Copy)]
 pub enum Request {
     Place(LonLat),
     Unplace(Face, u8),

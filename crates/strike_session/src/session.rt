@@ -12,7 +12,7 @@ use set::open::OpenAnswer;
 use strike_records::line::{LINE, write_refusal};
 
 // The records that are still taken, after the header; a stopped session takes nothing more.
-#[derive(Drop)]
+#[derive(Clone, Copy)]
 pub enum Stage {
     Header,
     Records(u32),
@@ -20,7 +20,7 @@ pub enum Stage {
 }
 
 // What begin hands back: where the session stands, and how many bytes its line has.
-#[derive(Drop)]
+#[derive(Clone, Copy)]
 pub struct Begun {
     pub stage: Stage,
     pub written: usize,
@@ -28,7 +28,7 @@ pub struct Begun {
 
 // What feeding hands back: where the session stands then, how many bytes of the input it took, and
 // how many its lines have.
-#[derive(Drop)]
+#[derive(Clone, Copy)]
 pub struct Fed {
     pub stage: Stage,
     pub taken: usize,
@@ -36,7 +36,7 @@ pub struct Fed {
 }
 
 // The same of a buffer: how many bytes at its start were not taken.
-#[derive(Drop)]
+#[derive(Clone, Copy)]
 pub struct FedBuffer {
     pub stage: Stage,
     pub kept: usize,

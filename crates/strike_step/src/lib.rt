@@ -1,5 +1,6 @@
 // A step of the strike program: a read brings bytes of the session, and the lines of what has arrived then are written. A write
 // that fails ends the session.
+#![tactic(auto)]
 ghost use Rattle.std.specs.Prelude.{◌≡◌, false, ◌≤◌, ◌<◌, length};
 ghost use Rattle.set.specs.Outcome.{lent};
 ghost use Rattle.strike_reads.specs.Steps.{state_of, Stepped};
@@ -12,7 +13,7 @@ use strike_session::session::{Stage, is_over};
 
 // Between two reads: where the session stands, how many bytes of the buffer were not taken, whether
 // nothing more is read, and whether lines are lost because a write failed.
-#[derive(Drop)]
+#[derive(Clone, Copy)]
 pub struct Standing {
     pub stage: Stage,
     pub kept: usize,

@@ -7,7 +7,7 @@ use coordinates::coords::Face;
 use coordinates::vec2::Vec2;
 
 // The centre of the face and the two corners of one of its five quintants.
-#[derive(Drop)]
+#[derive(Clone, Copy)]
 pub struct QuintantVertices {
     pub center: Face,
     pub corner1: Face,

@@ -24,7 +24,7 @@ use stores::slots::is_filled;
 use transforms::coordinate_transforms::to_cartesian;
 
 // A sphere triangle, or 8.
-#[derive(Drop)]
+#[derive(Clone, Copy)]
 pub enum TriangleAnswer {
     Answered(SphericalTriangle),
     Refused(Refusal),

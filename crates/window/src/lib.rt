@@ -1,6 +1,7 @@
 // Paper 5: a window of strikes. It keeps those whose minute is less than 180 behind that of the last one accepted, at most
 // 4,096, in a ring, and counts them by origin. `add_to_parts` is an addition, on the arrays and a small state; that to a
 // window which is lent is crate `lent_window`. No function has a `requires`: whatever a window holds, an addition ends.
+#![tactic(auto)]
 ghost use Rattle.std.specs.Prelude.{◌≡◌, min};
 ghost use Rattle.window.specs.Window.{window_of, empty_window};
 ghost use Rattle.window.specs.Addition.{AddedTo};
@@ -11,7 +12,7 @@ use window_ring::{lower_counts, raise_count, remaining, saturating_sub};
 // What a window knows beside its strikes and counts: the place of the oldest strike, how many are kept, and the minute of
 // the last one accepted.
 #[repr(C)]
-#[derive(Drop)]
+#[derive(Clone, Copy)]
 pub struct State {
     pub first: u32,
     pub kept: u32,
@@ -30,7 +31,7 @@ pub struct Window {
 }
 
 // The answer of an addition, and the state after it.
-#[derive(Drop)]
+#[derive(Clone, Copy)]
 pub struct Step {
     pub answer: Check,
     pub state: State,

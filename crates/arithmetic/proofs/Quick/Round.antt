@@ -2,7 +2,7 @@
 -- `qround_is`: whatever the guess, the result is `round`'s. Assumes nothing.
 use mathlib.Core.Path.{◌≡◌, refl, sym, ap, ◌∙◌}
 use Prim.Native.Nat.{ℕ, zero, suc, ◌+◌, ◌-◌, ◌*◌, ◌/◌, ◌%◌, ◌^◌, ◌≤◌, ◌<◌, min, compare}
-use native.Mathlib.Nat.{le_trans, lt_of_le_of_lt, zero-lt-suc, add-zero, add-suc, suc-add, mul_assoc, mul_comm, mul_left_comm, mul-le-mul, mul-pos, pow-succ', div_one, div-zero, div-div-eq-div-mul, le-div_iff_mul-le, div-lt_iff_lt-mul}
+use native.Mathlib.Nat.{le_trans, lt_of_le_of_lt, zero-lt-suc, add-zero, add-suc, suc-add, mul_assoc, mul_comm, mul_left_comm, mul-le-mul, mul-pos, pow-succ', div-one, div-zero, div-div-eq-div-mul, le-div_iff_mul-le, div-lt_iff_lt-mul}
 use native.Mathlib.Omega.{arith}
 use mathlib.Core.Bool.{Bool, true, false}
 use borrow.Author.Tests.{lt-ltb}
@@ -11,7 +11,7 @@ use lib.Dec.{T, leb, eqb, eqb→eq, lit<}
 use lib.Count.{count_trailing_zeros, under}
 use lib.Pow.{pow-add, pow_pos, pow_mono}
 use lib.Ieee.{Float, fin, binary64, size, odd, units, round, nearest, minus}
-use lib.Ieee.Fits.{round_is, nearest_le}
+use lib.Ieee.Fits.{round_is, nearest-le}
 use lib.Ieee.Nearest.{closest, closest_same, div_same}
 use Rattle.arithmetic.proofs.Powers.{size_is}
 
@@ -33,7 +33,7 @@ qodd d s (suc q) k l = strip d s (suc q) k l
 
 strip_is : (d : ℕ) (s : Bool) (q k l : ℕ) → strip d s q k l ≡ fin s (q / 2 ^ count_trailing_zeros d q) (minus (k + count_trailing_zeros d q) l)
 unfolding strip count_trailing_zeros
-strip_is zero s q k l = simp (div_one, add-zero)
+strip_is zero s q k l = simp (div-one, add-zero)
 strip_is (suc d) s q k l = go (q % 2) (strip_is d s (q / 2) (suc k) l)
   where
     t : ℕ
@@ -42,7 +42,7 @@ strip_is (suc d) s q k l = go (q % 2) (strip_is d s (q / 2) (suc k) l)
     go : (r : ℕ) → strip d s (q / 2) (suc k) l ≡ fin s (q / 2 / 2 ^ t) (minus (suc k + t) l)
         → ◌≡◌ {A = Float} (elim r [ zero ↦ strip d s (q / 2) (suc k) l | suc x ↦ fin s q (minus k l) ]) (fin s (q / 2 ^ under r t) (minus (k + under r t) l))
     go zero ih = ih ∙ simp (div-div-eq-div-mul, pow-succ', add-suc, suc-add)
-    go (suc r) ih = simp (div_one, add-zero)
+    go (suc r) ih = simp (div-one, add-zero)
 
 pub qodd_is : (d : ℕ) (s : Bool) (q k l : ℕ) → qodd d s q k l ≡ odd d s q k l
 unfolding qodd odd
@@ -80,7 +80,7 @@ exact s num den j k e h =
     let p : 2 ^ 1074 ≡ 2 ^ j * 2 ^ k = ap (λ (z : ℕ). 2 ^ z) (sym e) ∙ pow-add 2 j k in
     let x : n * den ≡ num * 2 ^ j * (den * 2 ^ k) = ap (λ (z : ℕ). num * z * den) p ∙ simp (mul_assoc, mul_comm, mul_left_comm) in
     let d : size (n / den) - 53 ≡ k = sized (n / den) k (ap (λ (z : ℕ). z / 2 ^ 52) (div-div-eq-div-mul n den (2 ^ k) ∙ div_same n (den * 2 ^ k) (num * 2 ^ j) den U D x) ∙ h) in
-    let b : closest (num * 2 ^ j) den ≤ 2 ^ 53 = le_trans (nearest_le q (compare (num * 2 ^ j % den * 2) den)) (omega arith) in
+    let b : closest (num * 2 ^ j) den ≤ 2 ^ 53 = le_trans (nearest-le q (compare (num * 2 ^ j % den * 2) den)) (omega arith) in
     qodd_is 54 s (closest (num * 2 ^ j) den) k 1074
     ∙ sym (units_is s (closest (num * 2 ^ j) den) k b (omega arith))
     ∙ sym
