@@ -1,5 +1,6 @@
 // Refusals and their numbers, and the checks of one number (document 01, "Calls and their numbers"); the bits of a number.
 #![tactic(auto)]
+
 ghost use Rattle.std.specs.Prelude.{◌≡◌};
 ghost use Rattle.std.specs.Float.{binary64};
 ghost use Rattle.std.specs.Float.Ieee.{to_bits};

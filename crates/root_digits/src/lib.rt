@@ -1,6 +1,7 @@
 // The binary digits of a square root, one a round from its first 1 on, until none is left or those found are the exact root (Paper 2), and
 // the whole number nearest to it.
 #![tactic(auto)]
+
 ghost use Rattle.std.specs.Prelude.{◌≡◌, ◌+◌, ◌-◌, ◌*◌, ◌^◌, ◌<◌, ◌≤◌, if◌then◌else◌, nat_le};
 ghost use Rattle.arithmetic.specs.Sqrt.{nearest_root};
 ghost use Rattle.root_digits.specs.Digits.{Marked, Found, Ended, FoundBoth};

@@ -3,8 +3,7 @@ use mathlib.Core.Path.{◌≡◌, refl, sym}
 use mathlib.Core.Bool.{true, false}
 use lib.Ieee.{Float, nan, inf, fin, lt, neg, of_bits, binary64, nan_bits}
 use Rattle.answer.specs.Number.{is_finite}
-use Rattle.answer.proofs.is_finite.Statement.{statement}
-use Rattle.answer.proofs.is_finite.Tie as tie
+use Rattle.answer.proofs.is_finite.Goals as goal
 
 -- +infinity
 abbrev top : Float
@@ -23,11 +22,12 @@ not_below nan e = refl
 not_below (inf s) e = refl
 not_below (fin s m d) e = sym e
 
-float-from-bits-top : tie.Need-float-from-bits-top
+pub float_from_bits-top : goal.float_from_bits-top
 unfolding nan_bits
-float-from-bits-top c = tt
+float_from_bits-top c = tt
 
-pub is_finite_spec : {M : Type 1} → statement M
-is_finite_spec =
-    tie.close
-    (tie.spec float-from-bits-top (λ c. below_top c.before.args.x c.if1.true) (λ c. not_below c.before.args.x c.if1.false))
+pub returns-then-x-top : goal.returns-then-x-top
+returns-then-x-top c = below_top c.args.x c.if-x-top.true
+
+pub returns-else-x-top : goal.returns-else-x-top
+returns-else-x-top c = not_below c.args.x c.if-x-top.false
