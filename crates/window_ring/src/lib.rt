@@ -1,6 +1,7 @@
 // Paper 5: strikes in a ring. They lie in arrays of 4,096 places from one place on, oldest first, and place 0 follows place
 // 4,095. Here those that are too old are counted, and the twelve counts lowered and raised. No function has a `requires`.
 #![tactic(auto)]
+
 ghost use Rattle.std.specs.Prelude.{◌≡◌, ◌-◌, ◌%◌};
 ghost use Rattle.window_ring.specs.Ring.{lower, raise, remain, lowered};
 
