@@ -1,5 +1,6 @@
 // Paper 13: what a line of the as-run sheet is written of: a number in its columns, a text, a line of spaces.
 #![tactic(auto)]
+
 ghost use Rattle.std.specs.Prelude.{◌≡◌, cond, ◌++◌, ◌%◌, ◌<◌, ◌≤◌, eqb, length, drop};
 ghost use Rattle.decimal.specs.Decimal.{digit, decimal};
 ghost use Rattle.sheet_columns.specs.Line.{SPACE, blank, right_aligned};

@@ -2,6 +2,7 @@
 // 4,096, in a ring, and counts them by origin. `add_to_parts` is an addition, on the arrays and a small state; that to a
 // window which is lent is crate `lent_window`. No function has a `requires`: whatever a window holds, an addition ends.
 #![tactic(auto)]
+
 ghost use Rattle.std.specs.Prelude.{◌≡◌, min};
 ghost use Rattle.window.specs.Window.{window_of, empty_window};
 ghost use Rattle.window.specs.Addition.{AddedTo};

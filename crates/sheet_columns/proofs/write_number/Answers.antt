@@ -1,23 +1,14 @@
 -- `write_number` meets its contract. The loop's invariant: the columns of what is left of the number, with those that stand behind them, are all
 -- of its columns; its measure: how many columns are left. Assumes nothing.
 use mathlib.Core.Path.{◌≡◌, refl, sym, ap, ◌∙◌}
-use mathlib.Core.List.{List, [], ◌∷◌, ◌++◌}
-use Prim.Native.Nat.{ℕ, suc, ◌+◌, ◌-◌, ◌/◌, ◌%◌, ◌≤◌, ◌<◌}
+use mathlib.Core.List.{List, ◌∷◌, ◌++◌}
+use Prim.Native.Nat.{ℕ, suc, ◌-◌, ◌/◌, ◌%◌}
 use native.Mathlib.Omega.{arith}
-use borrow.Author.Rules.{rules}
 use lib.ListN.{length, drop, set, length-set, drop_of_length-le}
 use Rattle.decimal.specs.Decimal.{digit, decimal}
 use Rattle.sheet_columns.specs.Line.{right_aligned}
 use Rattle.sheet_columns.proofs.Number.{columns_of, number_aligned, column_more, drop_stored}
-use Rattle.sheet_columns.proofs.write_number.Statement.{statement}
-use Rattle.sheet_columns.proofs.write_number.Tie as tie
-
-abbrev invariant-loop : tie.invariant-loop
-invariant-loop columns₀ n at₀ rest₀ columns at rest =
-    (at ≤ length columns₀) × (length columns ≡ length columns₀) × (columns_of at rest ++ drop at columns ≡ right_aligned (length columns₀) (decimal n))
-
-abbrev decreases-loop : tie.decreases-loop
-decreases-loop columns₀ n at₀ rest₀ columns at rest = at
+use Rattle.sheet_columns.proofs.write_number.Goals as goal
 
 -- the last digit
 begun : (l : List ℕ) (n j : ℕ) → suc j ≡ length l → columns_of j (n / 10) ++ drop j (set l j (digit (n % 10))) ≡ right_aligned (length l) (decimal n)
@@ -26,50 +17,26 @@ begun l n j s =
     ap (λ (t : List ℕ). columns_of j (n / 10) ++ t) (drop_stored l j (digit (n % 10)) (omega arith) ∙ ap (λ (t : List ℕ). digit (n % 10) ∷ t) behind)
     ∙ number_aligned j n ∙ ap (λ (w : ℕ). right_aligned w (decimal n)) s
 
-loop-holds : tie.Need-loop-init invariant-loop decreases-loop
-loop-holds c =
-    let a = c.before.args in
+pub loop-at-init : goal.loop-at-init
+loop-at-init c =
+    let a = c.args in
     let l = a.columns.now in
     let j = length l - 1 in
     let same = length-set l j (digit (a.n % 10)) in
     (omega arith, refl, begun l a.n j (omega arith) ∙ ap (λ (w : ℕ). right_aligned w (decimal a.n)) (sym same))
 
-loop-again : tie.Need-loop-preserved invariant-loop decreases-loop
-loop-again c =
-    let l = c.before.before.loop in
+pub loop-at-preserved : goal.loop-at-preserved
+loop-at-preserved c =
+    let l = c.loop-at in
     let j = l.at - 1 in
     let more = column_more l.at j l.rest c.column.result l.columns _ (omega arith) (omega arith) c.column.ensures l.invariant.2 in
     (omega arith, length-set l.columns j c.column.result ∙ l.invariant.1, more)
 
-returns : tie.Need-returns invariant-loop decreases-loop
+pub returns : goal.returns
 unfolding columns_of
 returns c =
-    let l = c.before.loop in
-    let a = c.before.before.before.args in
+    let l = c.loop-at in
+    let a = c.args in
     let e : l.at ≡ 0 = omega arith in
     let all = rw e at l.invariant.2 in
     all ∙ ap (λ (w : ℕ). right_aligned w (decimal a.n)) (length-set a.columns.now (length a.columns.now - 1) (digit (a.n % 10)))
-
-same_length : tie.Need-same-length invariant-loop decreases-loop
-same_length c =
-    let a = c.before.before.before.args in
-    c.before.loop.invariant.1 ∙ length-set a.columns.now (length a.columns.now - 1) (digit (a.n % 10))
-
-pub write_number_spec : {M : Type 1} → statement M
-write_number_spec =
-    tie.close
-    (tie.spec
-    invariant-loop
-    decreases-loop
-    (λ c. search rules)
-    (λ c. search rules)
-    (λ c. search rules)
-    (λ c. search rules)
-    loop-holds
-    (λ c. search rules)
-    (λ c κs. search rules)
-    (λ c. search rules)
-    (λ c. search rules)
-    loop-again
-    same_length
-    returns)

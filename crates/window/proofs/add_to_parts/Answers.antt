@@ -1,0 +1,34 @@
+-- `window::add_to_parts` meets its contract, by the four ways in which an addition ends (`Ways`).
+-- The stations: `test-origin` and `test-minute` behind the first two tests, `looked` behind the call of `remaining`. Assumes nothing.
+use mathlib.Core.Path.{subst}
+use Prim.Native.Nat.{ℕ, ◌<◌, ◌≤◌}
+use Rattle.answer.specs.declared.Refusal.TheVariants as refusal
+use Rattle.window.specs.Window.{window_of}
+use Rattle.window.proofs.Ways.{no_origin, too_early, no_room, has_room, leaves, adds, counts_remaining, builds_window}
+use Rattle.window.proofs.add_to_parts.Goals as goal
+
+pub returns-then-origin-gt11 : goal.returns-then-origin-gt11
+returns-then-origin-gt11 c =
+    leaves _ _ _ _ refusal.UnknownOrigin c.refused.ensures (no_origin _ _ _ c.if-origin-gt11.true)
+
+pub returns-then-minute-state : goal.returns-then-minute-state
+returns-then-minute-state c =
+    leaves _ _ _ _ refusal.EarlierMinute c.refused-then-minute-state.ensures (too_early _ _ _ c.if-origin-gt11.false c.if-minute-state.true)
+
+pub returns-then-k-ge4096 : goal.returns-then-k-ge4096
+returns-then-k-ge4096 c =
+    let a = c.args in
+    let w = window_of a.minutes.now a.origins.now a.counts.now a.state in
+    let k = counts_remaining w a.minute _ _ c.lesser-n.ensures c.remaining-k.ensures in
+    leaves w a.minute a.origin _ refusal.WindowFull c.refused-then-k-ge4096.ensures
+    (no_room w a.minute a.origin c.if-origin-gt11.false c.if-minute-state.false (subst (λ (n : ℕ). 4096 ≤ n) k c.if-k-ge4096.true))
+
+pub returns : goal.returns
+returns c =
+    let a = c.args in
+    let w = window_of a.minutes.now a.origins.now a.counts.now a.state in
+    let n = c.lesser-n.ensures in
+    let k = counts_remaining w a.minute _ _ n c.remaining-k.ensures in
+    adds w a.minute a.origin _
+    (builds_window w a.minute a.origin _ _ _ _ _ n k c.saturating_sub-gone.ensures c.lower_counts.ensures c.raise_count.ensures)
+    (has_room w a.minute a.origin c.if-origin-gt11.false c.if-minute-state.false (subst (λ (n : ℕ). n < 4096) k c.if-k-ge4096.false))
