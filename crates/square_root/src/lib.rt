@@ -1,3 +1,4 @@
 // The square root. Each public function is total and has no requires.
 #![tactic(auto)]
+
 pub mod root;

@@ -2,7 +2,7 @@
 use borrow.Author.Tests.{le-leb}
 use mathlib.Core.Path.{◌≡◌, refl, sym, ap, ◌∙◌, subst}
 use mathlib.Core.Bool.{false}
-use Prim.Native.Nat.{ℕ, ◌*◌, ◌^◌, ◌≤◌, ◌<◌}
+use Prim.Native.Nat.{ℕ, ◌^◌, ◌≤◌}
 use native.Mathlib.Nat.{lt_of_not-le}
 use native.Mathlib.Decide.{dec_le}
 use native.Mathlib.Omega.{arith}
@@ -14,29 +14,33 @@ use Rattle.answer.proofs.NotANumber.{is_nan_lem, is_number}
 use Rattle.square_root.specs.Root.{Pattern}
 use Rattle.float_parts.proofs.SignBit.{sign_bit}
 use Rattle.square_root.proofs.RootBits.{top_not_positive, negative_not_positive}
-use Rattle.square_root.proofs.root.pattern.Statement.{statement}
-use Rattle.square_root.proofs.root.pattern.Tie as tie
+use Rattle.square_root.proofs.root.pattern.Lts as lts
+use Rattle.square_root.proofs.root.pattern.Reads as reads
+use Rattle.square_root.proofs.root.pattern.Goals as goal
 
-held : (c : tie.Start) → T (fits binary64 c.args.x)
-held c = rw c.well-formed.0.1 tt
+abbrev Start : Type 0
+Start = lts.Start reads.Pre reads.Post
 
-back : (c : tie.Start) → of_bits binary64 (to_bits binary64 c.args.x) ≡ c.args.x
+held : (c : Start) → T (fits binary64 c.args.x)
+held c = rw c.well_formed.0.1 tt
+
+back : (c : Start) → of_bits binary64 (to_bits binary64 c.args.x) ≡ c.args.x
 back c = of_bits-to_bits binary64 c.args.x (held c)
 
 -- 0 is given, for a value that is not above zero or not finite
 nothing : {x : Float} → positive x ≡ false → Pattern x 0
 nothing p = record { none = λ z. p; is = λ h. absurd (omega arith); most = omega arith }
 
-returns : tie.Need-returns
-returns c = nothing (ap positive (is_nan_lem c.before.args.x c.if1.true))
+pub returns-then-x : goal.returns-then-x
+returns-then-x c = nothing (ap positive (is_nan_lem c.args.x c.if-x.true))
 
-float-to-bits-b : tie.Need-float-to-bits-b
-float-to-bits-b c = is_number c.before.args.x c.if1.false
+pub float_to_bits-b : goal.float_to_bits-b
+float_to_bits-b c = is_number c.args.x c.if-x.false
 
-returns-2 : tie.Need-returns-2
-returns-2 c = nothing (by (dec_le (2 ^ 63) b))
+pub returns-then-b-ge9218868437227405312 : goal.returns-then-b-ge9218868437227405312
+returns-then-b-ge9218868437227405312 c = nothing (by (dec_le (2 ^ 63) b))
   where
-    start : tie.Start
+    start : Start
     start = c.before.before
 
     x : Float
@@ -46,21 +50,17 @@ returns-2 c = nothing (by (dec_le (2 ^ 63) b))
     b = to_bits binary64 x
 
     by : Dec (2 ^ 63 ≤ b) → positive x ≡ false
-    by (yes h) = negative_not_positive x (sym (sign_bit x (held start) (is_number x c.before.if1.false)) ∙ le-leb (2 ^ 63) b h)
-    by (no h) = subst (λ v. positive v ≡ false) (back start) (top_not_positive b c.if2.true (lt_of_not-le h))
+    by (yes h) = negative_not_positive x (sym (sign_bit x (held start) (is_number x c.if-x.false)) ∙ le-leb (2 ^ 63) b h)
+    by (no h) = subst (λ v. positive v ≡ false) (back start) (top_not_positive b c.if-b-ge9218868437227405312.true (lt_of_not-le h))
 
 zero_not_positive : positive (of_bits binary64 0) ≡ false
 unfolding of_bits
 zero_not_positive = refl
 
-returns-3 : tie.Need-returns-3
-returns-3 c =
-    let start = c.before.before in
+pub returns : goal.returns
+returns c =
     record {
-      none = λ z. ap positive (sym (back start) ∙ ap (of_bits binary64) z) ∙ zero_not_positive;
-      is = λ h. back start;
+      none = λ z. ap positive (sym (back c.before.before) ∙ ap (of_bits binary64) z) ∙ zero_not_positive;
+      is = λ h. back c.before.before;
       most = omega arith;
     }
-
-pub pattern_spec : {M : Type 1} → statement M
-pattern_spec = tie.close (tie.spec returns float-to-bits-b returns-2 returns-3)
