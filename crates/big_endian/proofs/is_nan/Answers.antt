@@ -2,11 +2,7 @@
 use mathlib.Core.Path.{sym}
 use lib.Ieee.{binary64}
 use lib.Ieee.Bits.{nan_bits_above}
-use Rattle.big_endian.proofs.is_nan.Statement.{statement}
-use Rattle.big_endian.proofs.is_nan.Tie as tie
+use Rattle.big_endian.proofs.is_nan.Goals as goal
 
-returns : tie.Need-returns
+pub returns : goal.returns
 returns c = sym (nan_bits_above binary64 c.args.bits)
-
-pub is_nan_spec : {M : Type 1} → statement M
-is_nan_spec = tie.close (tie.spec returns)
