@@ -1,5 +1,6 @@
 // What a division cut to a whole number leaves, of any two f64: Rust's % and C's fmod, in words of 64 bits.
 #![tactic(auto)]
+
 ghost use Rattle.std.specs.Prelude.{◌≡◌, false, ◌*◌, ◌%◌, ◌^◌, ◌≤◌, ◌<◌, pos};
 ghost use Rattle.std.specs.Float.{fin, binary64};
 ghost use Rattle.std.specs.Float.Ieee.{lt, rem, of_bits};
