@@ -1,5 +1,6 @@
 // Paper 13: a line of the as-run sheet, by its place on the page.
 #![tactic(auto)]
+
 ghost use Rattle.std.specs.Prelude.{◌≡◌, [], ◌<◌, length, get_or, take};
 ghost use Rattle.decimal.specs.Decimal.{decimal};
 ghost use Rattle.window.specs.EveryList.{sum};

@@ -46,14 +46,14 @@ idle (w ∷ ws) (g ∷ gs) = ap₂ ◌∷◌ (omega arith) (ap (λ (l : ℕ). ro
 pub all_served : (left : ℕ) (ws : List ℕ) → round left ws ws ≡ ws
 unfolding round
 all_served left [] = refl
-all_served left (w ∷ ws) = ap₂ ◌∷◌ (omega (arith, still_is w w)) (all_served _ ws)
+all_served left (w ∷ ws) = ap₂ ◌∷◌ (omega (arith, still_is w w)) (all_served (left - single left w w) ws)
 
 -- one that reaches all who are short takes the level up by one
 pub whole : (left L : ℕ) (ws : List ℕ) → short_of L ws ≤ left → round left ws (capped L ws) ≡ capped (suc L) ws
 unfolding round
 whole left L [] h = refl
 whole left L (w ∷ ws) h =
-    ap₂ ◌∷◌ (omega (arith, still_capped w L, still_is w L)) (whole _ L ws (omega (arith, still_capped w L)))
+    ap₂ ◌∷◌ (omega (arith, still_capped w L, still_is w L)) (whole (left - single left w (min w L)) L ws (omega (arith, still_capped w L)))
 
 -- what it hands out
 pub sum_round : (left L : ℕ) (ws : List ℕ) → sum (round left ws (capped L ws)) ≡ sum (capped L ws) + min left (short_of L ws)

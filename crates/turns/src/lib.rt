@@ -1,5 +1,6 @@
 // Fair turns: the numbers of one channel. A turn's calls are handed out in crate `fair_turns`.
 #![tactic(auto)]
+
 ghost use Rattle.std.specs.Prelude.{◌≡◌, min};
 ghost use Rattle.turns.specs.Turns.{still_short};
 
