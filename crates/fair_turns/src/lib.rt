@@ -1,5 +1,6 @@
 // Fair turns: a turn's place calls handed out to sixteen channels by what each wishes for.
 #![tactic(auto)]
+
 ghost use Rattle.std.specs.Prelude.{◌≡◌, ◌≤◌, length};
 ghost use Rattle.answer.specs.Answer.{given_check};
 ghost use Rattle.turns.specs.Turns.{CALLS, CHANNELS, sum, capped, round, turns_given, grants_after};

@@ -1,5 +1,6 @@
 // Paper 5: an addition to a window that is lent. None of its arrays is copied.
 #![tactic(auto)]
+
 ghost use Rattle.window.specs.Addition.{AddedTo};
 
 use answer::Check;

@@ -1,2 +1,0 @@
--- What the proofs over a lent window share.
-pub mod Parts
