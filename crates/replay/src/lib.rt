@@ -1,6 +1,7 @@
 // What the programs that replay the oracle's lists share. A program asks its crate at each stored argument. Here are the
 // records, as they are read (oracle/README.md), outcomes and the report; crate replay_tally compares and counts.
 #![tactic(auto)]
+
 pub mod outcome;
 pub mod pattern;
 pub mod record;

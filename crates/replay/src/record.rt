@@ -1,11 +1,14 @@
 // A record of a list: a head of four bytes, then a word of eight bytes, big-endian, for each argument and each answer.
-ghost use Rattle.std.specs.Prelude.{◌≡◌, ◌+◌, ◌*◌, ◌<◌, ◌≤◌, false, from_bits};
+ghost use Rattle.std.specs.Prelude.{◌≡◌, ◌+◌, ◌*◌, ◌<◌, ◌≤◌, false, from_bits, take, IfOk};
 ghost use Rattle.std.specs.Float.{binary64};
+ghost use Rattle.std.specs.Io.{ReadsAtMost};
+ghost use Rattle.std.specs.Io.KnownBytes.{Consumes};
 ghost use Rattle.replay.specs.Record.{four_of, four_at, word_at, WellFormed, Ready};
 
 use crate::pattern::value;
 use crate::report;
-use libc::STDIN_FILENO;
+use std::io;
+use std::io::{Read, Write};
 
 // The function's number, 0 or the number of its refusal, and how many words are arguments and answers.
 #[derive(Clone, Copy)]
@@ -83,21 +86,42 @@ fn is_unknown(head: Head, takes: &[u8]) -> bool
     takes[number] != b'0' + head.arguments
 }
 
+// Reads until the room is full or the input ends, and answers how many bytes there are. They are the reader's next.
+pub fn read_full<R: Read>(from: &mut R, room: &mut [u8]) -> io::Result<usize>
+    ensures bound { ReadsAtMost result room.new }
+    ensures bytes { IfOk result (λ n. Consumes (R.remaining from.old) (R.remaining from.new) (take n room.new)) }
+{
+    let mut done: usize = 0;
+    while done < room.len() {
+        let n = from.read(&mut room[done..])?;
+        if n == 0 {
+            break;
+        }
+        done += n;
+    }
+    Ok(done)
+}
+
 // Reads a record, into room for twelve words. The words that it does not have keep what they hold.
-pub fn read(takes: &[u8], words: &mut [u8]) -> Next
-    ensures { Ready result }
+pub fn read<R: Read, W: Write>(
+    from: &mut R,
+    to: &mut W,
+    takes: &[u8],
+    words: &mut [u8],
+) -> io::Result<Next>
+    ensures { IfOk result Ready }
 {
     if words.len() != 96 {
-        return Next::Done;
+        return Ok(Next::Done);
     }
     let mut s = [0u8; 4];
-    let n = io::read_full(STDIN_FILENO, &mut s);
+    let n = read_full(from, &mut s)?;
     if n == 0 {
-        return Next::Done;
+        return Ok(Next::Done);
     }
     if n < 4 {
-        report::cut_off();
-        return Next::Done;
+        report::cut_off(to)?;
+        return Ok(Next::Done);
     }
     let head = Head {
         number: s[0],
@@ -106,14 +130,14 @@ pub fn read(takes: &[u8], words: &mut [u8]) -> Next
         answers: s[3],
     };
     if is_unknown(head, takes) {
-        report::unknown(head.number, head.arguments, head.answers);
-        return Next::Done;
+        report::unknown(to, head.number, head.arguments, head.answers)?;
+        return Ok(Next::Done);
     }
     let size = 8 * (head.arguments as usize + head.answers as usize);
-    let n = io::read_full(STDIN_FILENO, &mut words[..size]);
+    let n = read_full(from, &mut words[..size])?;
     if n < size {
-        report::cut_off();
-        return Next::Done;
+        report::cut_off(to)?;
+        return Ok(Next::Done);
     }
-    Next::Record(head)
+    Ok(Next::Record(head))
 }

@@ -1,115 +1,127 @@
 // What a program writes. The functions' names stand in one text, each after a space, in the order of their numbers.
 use crate::outcome::Outcome;
 use crate::record::{Head, word};
-use libc::STDOUT_FILENO;
+use std::io;
+use std::io::Write;
 
 // Writes the name after the number-th space.
-fn name(names: &[u8], number: u8) {
+fn name<W: Write>(to: &mut W, names: &[u8], number: u8) -> io::Result<()> {
     let mut spaces: u8 = 0;
     let mut i: usize = 0;
     while i < names.len() {
         if names[i] == b' ' {
-            spaces = std::num::wrapping_add_u8(spaces, 1);
+            spaces = spaces.wrapping_add(1);
         } else if spaces == number {
-            io::write_all(STDOUT_FILENO, &[names[i]]);
+            to.write_all(&[names[i]])?;
         }
         i += 1;
     }
+    Ok(())
 }
 
 // A space and 64 bits in hexadecimal.
-fn field(bits: u64) {
-    io::write_all(STDOUT_FILENO, b" ");
-    io::print_hex(STDOUT_FILENO, bits, 16);
-}
-
-// A byte in decimal.
-fn decimal(number: u8) {
-    io::print_decimal(STDOUT_FILENO, number as u64);
+fn field<W: Write>(to: &mut W, bits: u64) -> io::Result<()> {
+    write!(to, " {bits:016x}")
 }
 
 // A record's arguments, as their bits.
-fn arguments(words: &[u8; 96], count: usize) {
+fn arguments<W: Write>(to: &mut W, words: &[u8; 96], count: usize) -> io::Result<()> {
     let mut place: usize = 0;
     while place < count {
-        field(word(words, place));
+        field(to, word(words, place))?;
         place += 1;
     }
+    Ok(())
 }
 
 // A refusal's number, or as many of the three places as there are answers.
-fn outcome(o: Outcome) {
+fn outcome<W: Write>(to: &mut W, o: Outcome) -> io::Result<()> {
     if o.status > 0 {
-        io::write_all(STDOUT_FILENO, b" refusal ");
-        decimal(o.status);
+        let status = o.status;
+        write!(to, " refusal {status}")?;
     }
     if o.count > 0 {
-        field(o.first);
+        field(to, o.first)?;
     }
     if o.count > 1 {
-        field(o.second);
+        field(to, o.second)?;
     }
     if o.count > 2 {
-        field(o.third);
+        field(to, o.third)?;
     }
+    Ok(())
 }
 
 // A record that differs: its function, its arguments, the stored outcome and the one that was given.
-pub fn difference(names: &[u8], head: Head, words: &[u8; 96], stored: Outcome, given: Outcome) {
-    name(names, head.number);
-    io::write_all(STDOUT_FILENO, b" at");
-    arguments(words, head.arguments as usize);
-    io::write_all(STDOUT_FILENO, b" stored");
-    outcome(stored);
-    io::write_all(STDOUT_FILENO, b" given");
-    outcome(given);
-    io::write_all(STDOUT_FILENO, b"\n");
+pub fn difference<W: Write>(
+    to: &mut W,
+    names: &[u8],
+    head: Head,
+    words: &[u8; 96],
+    stored: Outcome,
+    given: Outcome,
+) -> io::Result<()> {
+    name(to, names, head.number)?;
+    to.write_all(b" at")?;
+    arguments(to, words, head.arguments as usize)?;
+    to.write_all(b" stored")?;
+    outcome(to, stored)?;
+    to.write_all(b" given")?;
+    outcome(to, given)?;
+    to.write_all(b"\n")
 }
 
 // A record that no function has: its number, and how many arguments and answers it has.
-pub fn unknown(number: u8, arguments: u8, answers: u8) {
-    io::write_all(STDOUT_FILENO, b"malformed list: function ");
-    decimal(number);
-    io::write_all(STDOUT_FILENO, b" with ");
-    decimal(arguments);
-    io::write_all(STDOUT_FILENO, b" arguments and ");
-    decimal(answers);
-    io::write_all(STDOUT_FILENO, b" answers\n");
+pub fn unknown<W: Write>(to: &mut W, number: u8, arguments: u8, answers: u8) -> io::Result<()> {
+    writeln!(
+        to,
+        "malformed list: function {number} with {arguments} arguments and {answers} answers"
+    )
 }
 
 // A list that ends inside a record.
-pub fn cut_off() {
-    io::write_all(STDOUT_FILENO, b"malformed list: cut off inside a record\n");
+pub fn cut_off<W: Write>(to: &mut W) -> io::Result<()> {
+    to.write_all(b"malformed list: cut off inside a record\n")
 }
 
 // A list that is longer than the program reads.
-pub fn too_long() {
-    io::write_all(STDOUT_FILENO, b"malformed list: too long\n");
+pub fn too_long<W: Write>(to: &mut W) -> io::Result<()> {
+    to.write_all(b"malformed list: too long\n")
 }
 
 // The line of one function.
-fn summary(names: &[u8], number: u8, compared: u64, differ: u64) {
-    name(names, number);
-    io::write_all(STDOUT_FILENO, b" ");
-    io::print_decimal(STDOUT_FILENO, compared);
-    io::write_all(STDOUT_FILENO, b" compared, ");
-    io::print_decimal(STDOUT_FILENO, differ);
-    io::write_all(STDOUT_FILENO, b" differ\n");
+fn summary<W: Write>(
+    to: &mut W,
+    names: &[u8],
+    number: u8,
+    compared: u64,
+    differ: u64,
+) -> io::Result<()> {
+    name(to, names, number)?;
+    writeln!(to, " {compared} compared, {differ} differ")
 }
 
 // A line for each function, up to and with the last; none where that is beyond the counts.
-pub fn summaries(names: &[u8], last: u8, compared: &[u64; 32], differ: &[u64; 32]) {
+pub fn summaries<W: Write>(
+    to: &mut W,
+    names: &[u8],
+    last: u8,
+    compared: &[u64; 32],
+    differ: &[u64; 32],
+) -> io::Result<()> {
     if last > 31 {
-        return;
+        return Ok(());
     }
     let mut number: u8 = 1;
     while number <= last {
         summary(
+            to,
             names,
             number,
             compared[number as usize],
             differ[number as usize],
-        );
+        )?;
         number += 1;
     }
+    Ok(())
 }

@@ -2,11 +2,14 @@
 // compares the outcomes bit for bit. It writes a line for each function: how many outcomes were compared, and how many
 // differ. It shows the first three records of each function that differ, and says so where the list is malformed.
 #![tactic(auto)]
+
 mod ask;
 
 use replay::outcome::Outcome;
 use replay::record::Next;
 use replay::{record, report};
+use std::io;
+use std::io::{Read, Write};
 
 // The outcome of the function with this number.
 fn outcome(number: u8, words: &[u8; 96]) -> Outcome {
@@ -33,40 +36,44 @@ fn outcome(number: u8, words: &[u8; 96]) -> Outcome {
 }
 
 // Reads one record and replays it. Answers whether there was one.
-fn replay_next(
+fn replay_next<R: Read, W: Write>(
+    from: &mut R,
+    to: &mut W,
     names: &[u8],
     takes: &[u8],
     compared: &mut [u64; 32],
     differ: &mut [u64; 32],
-) -> bool {
+) -> io::Result<bool> {
     let mut words = [0u8; 96];
-    let next = record::read(takes, &mut words);
+    let next = record::read(from, to, takes, &mut words)?;
     let Next::Record(head) = next else {
-        return false;
+        return Ok(false);
     };
     let given = outcome(head.number, &words);
-    replay_tally::compare(names, head, &words, given, compared, differ);
-    true
+    replay_tally::compare(to, names, head, &words, given, compared, differ)?;
+    Ok(true)
 }
 
 // Nothing says that the input ends, so the loop counts its records down from more than any list has.
-fn run(names: &[u8], takes: &[u8]) {
+fn run<R: Read, W: Write>(from: &mut R, to: &mut W, names: &[u8], takes: &[u8]) -> io::Result<()> {
     let mut compared = [0u64; 32];
     let mut differ = [0u64; 32];
     let mut left: u32 = 0xffff_ffff;
-    while left > 0 && replay_next(names, takes, &mut compared, &mut differ) {
+    while left > 0 && replay_next(from, to, names, takes, &mut compared, &mut differ)? {
         left -= 1;
     }
     if left == 0 {
-        report::too_long();
+        report::too_long(to)?;
     }
-    report::summaries(names, 18, &compared, &differ);
+    report::summaries(to, names, 18, &compared, &differ)
 }
 
 // The functions' names and how many arguments each takes, by their numbers, from 1.
-fn main() {
+fn main(rt: HostRuntime) -> io::Result<()> {
     run(
+        &mut rt.stdin(),
+        &mut rt.stdout(),
         b" deg_to_rad rad_to_deg to_polar to_face face_to_barycentric barycentric_to_face to_spherical to_cartesian normalize_longitude authalic::forward authalic::inverse gnomonic::forward gnomonic::inverse triple_product length vec3_distance from_lon_lat to_lon_lat",
         b"0112289321112293622",
-    );
+    )
 }

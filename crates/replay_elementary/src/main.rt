@@ -3,11 +3,14 @@
 // how many differ. It shows the first three records of each function that differ, and says so where the list is
 // malformed.
 #![tactic(auto)]
+
 use elementary::sine::{SinCosAnswer, SineAnswer};
 use replay::outcome::{Outcome, one, refused, two};
 use replay::record::{Next, argument};
 use replay::{record, report};
 use sine::sin_cos;
+use std::io;
+use std::io::{Read, Write};
 
 fn of_sine(given: SineAnswer) -> Outcome {
     match given {
@@ -40,40 +43,44 @@ fn outcome(number: u8, words: &[u8; 96]) -> Outcome {
 }
 
 // Reads one record and replays it. Answers whether there was one.
-fn replay_next(
+fn replay_next<R: Read, W: Write>(
+    from: &mut R,
+    to: &mut W,
     names: &[u8],
     takes: &[u8],
     compared: &mut [u64; 32],
     differ: &mut [u64; 32],
-) -> bool {
+) -> io::Result<bool> {
     let mut words = [0u8; 96];
-    let next = record::read(takes, &mut words);
+    let next = record::read(from, to, takes, &mut words)?;
     let Next::Record(head) = next else {
-        return false;
+        return Ok(false);
     };
     let given = outcome(head.number, &words);
-    replay_tally::compare(names, head, &words, given, compared, differ);
-    true
+    replay_tally::compare(to, names, head, &words, given, compared, differ)?;
+    Ok(true)
 }
 
 // Nothing says that the input ends, so the loop counts its records down from more than any list has.
-fn run(names: &[u8], takes: &[u8]) {
+fn run<R: Read, W: Write>(from: &mut R, to: &mut W, names: &[u8], takes: &[u8]) -> io::Result<()> {
     let mut compared = [0u64; 32];
     let mut differ = [0u64; 32];
     let mut left: u32 = 0xffff_ffff;
-    while left > 0 && replay_next(names, takes, &mut compared, &mut differ) {
+    while left > 0 && replay_next(from, to, names, takes, &mut compared, &mut differ)? {
         left -= 1;
     }
     if left == 0 {
-        report::too_long();
+        report::too_long(to)?;
     }
-    report::summaries(names, 13, &compared, &differ);
+    report::summaries(to, names, 13, &compared, &differ)
 }
 
 // The functions' names and how many arguments each takes, by their numbers, from 1.
-fn main() {
+fn main(rt: HostRuntime) -> io::Result<()> {
     run(
+        &mut rt.stdin(),
+        &mut rt.stdout(),
         b" abs max_zero floor round sqrt sin cos tan core atan atan2 sin_cos remainder",
         b"01111111111212",
-    );
+    )
 }

@@ -5,6 +5,7 @@
 // and its frame the first open's. Last the oracle's list (oracle/README.md) is read from standard input, each of its
 // vertices compared with what show hands back, and each b × c with what stands behind them in the sphere store.
 #![tactic(auto)]
+
 mod counts;
 mod due;
 mod lists;
@@ -14,47 +15,54 @@ use open_calls::open;
 use replay::record::Next;
 use replay::{record, report};
 use set::sizes::{FACE_STORE, FRAME, SPHERE_STORE};
+use std::io;
+use std::io::{Read, Write};
 
 // Reads one record and compares its vertex or b × c. Answers whether there was one.
-fn replay_next<'a>(
+fn replay_next<'a, R: Read, W: Write>(
+    from: &mut R,
+    to: &mut W,
     names: &[u8],
     face: &'a [f64; FACE_STORE],
     sphere: &'a [f64; SPHERE_STORE],
     compared: &mut [u64; 32],
     differ: &mut [u64; 32],
-) -> bool {
+) -> io::Result<bool> {
     let mut words = [0u8; 96];
-    let next = record::read(b"0221", &mut words);
+    let next = record::read(from, to, b"0221", &mut words)?;
     let Next::Record(head) = next else {
-        return false;
+        return Ok(false);
     };
     let given = vertices::of_record(head.number, face, sphere, &words);
-    replay_tally::compare(names, head, &words, given, compared, differ);
-    true
+    replay_tally::compare(to, names, head, &words, given, compared, differ)?;
+    Ok(true)
 }
 
 // Nothing says that the input ends, so the loop counts its records down from more than any list has.
-fn replay_all<'a>(
+fn replay_all<'a, R: Read, W: Write>(
+    from: &mut R,
+    to: &mut W,
     names: &[u8],
     face: &'a [f64; FACE_STORE],
     sphere: &'a [f64; SPHERE_STORE],
     compared: &mut [u64; 32],
     differ: &mut [u64; 32],
-) {
+) -> io::Result<()> {
     let mut left: u32 = 0xffff_ffff;
-    while left > 0 && replay_next(names, face, sphere, compared, differ) {
+    while left > 0 && replay_next(from, to, names, face, sphere, compared, differ)? {
         left -= 1;
     }
     if left == 0 {
-        report::too_long();
+        report::too_long(to)?;
     }
+    Ok(())
 }
 
 // What the set holds before open: a number that is no mark, and that no call writes.
 const FOREIGN: f64 = 7.5;
 
 // The names stand in the order of the counts.
-fn run(names: &[u8]) {
+fn run<R: Read, W: Write>(from: &mut R, to: &mut W, names: &[u8]) -> io::Result<()> {
     let mut frame = [FOREIGN; FRAME];
     let mut face = [FOREIGN; FACE_STORE];
     let mut sphere = [FOREIGN; SPHERE_STORE];
@@ -68,12 +76,14 @@ fn run(names: &[u8]) {
         &mut compared,
         &mut differ,
     );
-    replay_all(names, &face, &sphere, &mut compared, &mut differ);
-    report::summaries(names, 21, &compared, &differ);
+    replay_all(from, to, names, &face, &sphere, &mut compared, &mut differ)?;
+    report::summaries(to, names, 21, &compared, &differ)
 }
 
-fn main() {
+fn main(rt: HostRuntime) -> io::Result<()> {
     run(
+        &mut rt.stdin(),
+        &mut rt.stdout(),
         b" face_vertex sphere_vertex cross_product set forward inverse place unplace companion list region forward_refused inverse_refused place_refused unplace_refused companion_refused list_refused region_refused open show step",
-    );
+    )
 }

@@ -1,6 +1,7 @@
 // Replays the oracle's stored lists of positions (Paper 1): each is placed by one call on a set, with a table or without one, and the call's
 // status, every result, the result behind those that are lent and the whole set are compared with the stored ones. oracle/README.md has the records.
 #![tactic(auto)]
+
 mod arrays;
 mod ask;
 mod set_up;
@@ -13,6 +14,8 @@ use replay::{record, report};
 use replay_sets::compare;
 use replay_sets::given::done;
 use replay_sets::places::{FACE_STORE, FRAME, SPHERE_STORE};
+use std::io;
+use std::io::{Read, Write};
 
 // The number that the comparisons of the set are counted under, after those of the calls. No record has it. A result is the last that is
 // counted in the report.
@@ -45,7 +48,9 @@ fn outcome(
 }
 
 // Reads one record and replays it. Answers whether there was one.
-fn replay_next(
+fn replay_next<R: Read, W: Write>(
+    from: &mut R,
+    to: &mut W,
     names: &[u8],
     takes: &[u8],
     frame: &mut [f64; FRAME],
@@ -56,11 +61,11 @@ fn replay_next(
     results: &mut [u64; RESULTS],
     compared: &mut [u64; 32],
     differ: &mut [u64; 32],
-) -> bool {
+) -> io::Result<bool> {
     let mut words = [0u8; 96];
-    let next = record::read(takes, &mut words);
+    let next = record::read(from, to, takes, &mut words)?;
     let Next::Record(head) = next else {
-        return false;
+        return Ok(false);
     };
     let given = outcome(
         head.number,
@@ -72,16 +77,16 @@ fn replay_next(
         results,
         &words,
     );
-    replay_tally::compare(names, head, &words, given, compared, differ);
+    replay_tally::compare(to, names, head, &words, given, compared, differ)?;
     if head.number < BUFFERS {
         let wrong = compare::wrong(frame, face, sphere, notes);
-        compare::count(names, BUFFERS, wrong, compared, differ);
+        compare::count(to, names, BUFFERS, wrong, compared, differ)?;
     }
-    true
+    Ok(true)
 }
 
 // Nothing says that the input ends, so the loop counts its records down from more than any list has.
-fn run(names: &[u8], takes: &[u8]) {
+fn run<R: Read, W: Write>(from: &mut R, to: &mut W, names: &[u8], takes: &[u8]) -> io::Result<()> {
     let mut frame = [0.0; FRAME];
     let mut face = [0.0; FACE_STORE];
     let mut sphere = [0.0; SPHERE_STORE];
@@ -93,6 +98,8 @@ fn run(names: &[u8], takes: &[u8]) {
     let mut left: u32 = 0xffff_ffff;
     while left > 0
         && replay_next(
+            from,
+            to,
             names,
             takes,
             &mut frame,
@@ -103,20 +110,22 @@ fn run(names: &[u8], takes: &[u8]) {
             &mut results,
             &mut compared,
             &mut differ,
-        )
+        )?
     {
         left -= 1;
     }
     if left == 0 {
-        report::too_long();
+        report::too_long(to)?;
     }
-    report::summaries(names, RESULT, &compared, &differ);
+    report::summaries(to, names, RESULT, &compared, &differ)
 }
 
 // The records' names and how many arguments each has, by their numbers, from 1.
-fn main() {
+fn main(rt: HostRuntime) -> io::Result<()> {
     run(
+        &mut rt.stdin(),
+        &mut rt.stdout(),
         b" place_list open place_list_with buffers result position note fill put keep",
         b"05360134343",
-    );
+    )
 }

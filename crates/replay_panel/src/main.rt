@@ -3,6 +3,7 @@
 // also those that were not lent. It writes how many were compared and how many differ, by what was asked and the stored
 // status, names each record that differs, and says so where the list is malformed.
 #![tactic(auto)]
+
 mod ask;
 mod tables;
 
@@ -10,10 +11,12 @@ ghost use Rattle.std.specs.Prelude.{◌≡◌, ◌<◌, length};
 
 use crate::ask::{Head, ask};
 use crate::tables::{NUMBERS, wide};
-use libc::{STDIN_FILENO, STDOUT_FILENO};
 use open_calls::open;
+use replay::record::read_full;
 use replay::report;
 use set::sizes::{FACE_STORE, FRAME, SPHERE_STORE};
+use std::io;
+use std::io::{Read, Write};
 
 // Whether the 34 bytes of the block are the stored ones behind them.
 fn is_as_stored(bytes: &[u8]) -> bool
@@ -90,14 +93,14 @@ fn count(counts: &mut [u64; 32], number: usize)
     counts[number] = std::num::wrapping_add_u64(counts[number], 1);
 }
 
-fn difference(number: u64) {
-    io::write_all(STDOUT_FILENO, b"record ");
-    io::print_decimal(STDOUT_FILENO, number);
-    io::write_all(STDOUT_FILENO, b" differs\n");
+fn difference<W: Write>(to: &mut W, number: u64) -> io::Result<()> {
+    writeln!(to, "record {number} differs")
 }
 
 // Reads one record and replays it. Answers whether there was one.
-fn replay_next(
+fn replay_next<R: Read, W: Write>(
+    from: &mut R,
+    to: &mut W,
     number: u64,
     tables: &[f64; NUMBERS],
     frame: &mut [f64; FRAME],
@@ -105,38 +108,42 @@ fn replay_next(
     sphere_store: &mut [f64; SPHERE_STORE],
     compared: &mut [u64; 32],
     differ: &mut [u64; 32],
-) -> bool {
+) -> io::Result<bool> {
     let mut record = [0u8; 73];
-    let size = io::read_full(STDIN_FILENO, &mut record);
+    let size = read_full(from, &mut record)?;
     if size == 0 {
-        return false;
+        return Ok(false);
     }
     if size < 73 {
-        report::cut_off();
-        return false;
+        report::cut_off(to)?;
+        return Ok(false);
     }
     let of = line_of(record[0], record[4]);
     count(compared, of);
     if !agrees(tables, frame, face_store, sphere_store, &mut record) {
-        difference(number);
         count(differ, of);
+        difference(to, number)?;
     }
-    true
+    Ok(true)
 }
 
 // Nothing says that the input ends, so the loop counts its records up to more than any list has.
-fn replay_all(
+fn replay_all<R: Read, W: Write>(
+    from: &mut R,
+    to: &mut W,
     tables: &[f64; NUMBERS],
     frame: &mut [f64; FRAME],
     face_store: &mut [f64; FACE_STORE],
     sphere_store: &mut [f64; SPHERE_STORE],
-) {
+) -> io::Result<()> {
     let mut compared = [0u64; 32];
     let mut differ = [0u64; 32];
     let mut number: u64 = 0;
     let mut more = true;
     while number < 0xffff_ffff && more {
         more = replay_next(
+            from,
+            to,
             number,
             tables,
             frame,
@@ -144,26 +151,38 @@ fn replay_all(
             sphere_store,
             &mut compared,
             &mut differ,
-        );
+        )?;
         number += 1;
     }
     if number == 0xffff_ffff {
-        report::too_long();
+        report::too_long(to)?;
     }
     report::summaries(
+        to,
         b" carried_out refused carried_out_with refused_with open_with open_with_refused",
         6,
         &compared,
         &differ,
-    );
+    )
 }
 
-fn main() {
+fn run<R: Read, W: Write>(from: &mut R, to: &mut W) -> io::Result<()> {
     let mut tables = [0.0; NUMBERS];
-    tables::read(&mut tables);
+    tables::read(from, &mut tables)?;
     let mut frame = [0.0; FRAME];
     let mut face_store = [0.0; FACE_STORE];
     let mut sphere_store = [0.0; SPHERE_STORE];
     open(&mut frame, &mut face_store, &mut sphere_store);
-    replay_all(&tables, &mut frame, &mut face_store, &mut sphere_store);
+    replay_all(
+        from,
+        to,
+        &tables,
+        &mut frame,
+        &mut face_store,
+        &mut sphere_store,
+    )
+}
+
+fn main(rt: HostRuntime) -> io::Result<()> {
+    run(&mut rt.stdin(), &mut rt.stdout())
 }

@@ -1,7 +1,9 @@
 // The tables that the list begins with. A record names one by its number.
 ghost use Rattle.std.specs.Prelude.{◌<◌};
 
-use libc::STDIN_FILENO;
+use replay::record::read_full;
+use std::io;
+use std::io::Read;
 
 // How many tables there are, and how many numbers they have.
 const COUNT: usize = 29;
@@ -9,21 +11,22 @@ const COUNT: usize = 29;
 pub(crate) const NUMBERS: usize = COUNT * 84;
 
 // The next number of the list; 0.0 where it has ended, and then no record follows.
-fn number() -> f64 {
+fn number<R: Read>(from: &mut R) -> io::Result<f64> {
     let mut bytes = [0u8; 8];
-    let size = io::read_full(STDIN_FILENO, &mut bytes);
+    let size = read_full(from, &mut bytes)?;
     if size < 8 {
-        return 0.0;
+        return Ok(0.0);
     }
-    big_endian::read_double(&bytes, 0)
+    Ok(big_endian::read_double(&bytes, 0))
 }
 
-pub(crate) fn read(tables: &mut [f64; NUMBERS]) {
+pub(crate) fn read<R: Read>(from: &mut R, tables: &mut [f64; NUMBERS]) -> io::Result<()> {
     let mut i: usize = 0;
     while i < NUMBERS {
-        tables[i] = number();
+        tables[i] = number(from)?;
         i += 1;
     }
+    Ok(())
 }
 
 // A byte as a number.

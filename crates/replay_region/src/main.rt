@@ -1,6 +1,7 @@
 // Replays the oracle's stored regions (Paper 4): each is one call on a set, with a table or without one, and the call's status and origin,
 // every point, the point behind those that are lent, the box and the whole set are compared with the stored ones. oracle/README.md has the records.
 #![tactic(auto)]
+
 mod arrays;
 mod ask;
 mod set_up;
@@ -13,6 +14,8 @@ use replay::{record, report};
 use replay_sets::compare;
 use replay_sets::given::done;
 use replay_sets::places::{FACE_STORE, FRAME, SPHERE_STORE};
+use std::io;
+use std::io::{Read, Write};
 
 // The number that the comparisons of the set are counted under, after those of the calls. No record has it. Half of a box is the last that
 // is counted in the report.
@@ -48,7 +51,9 @@ fn outcome(
 }
 
 // Reads one record and replays it. Answers whether there was one.
-fn replay_next(
+fn replay_next<R: Read, W: Write>(
+    from: &mut R,
+    to: &mut W,
     names: &[u8],
     takes: &[u8],
     frame: &mut [f64; FRAME],
@@ -59,11 +64,11 @@ fn replay_next(
     left: &mut [u64; LEFT],
     compared: &mut [u64; 32],
     differ: &mut [u64; 32],
-) -> bool {
+) -> io::Result<bool> {
     let mut words = [0u8; 96];
-    let next = record::read(takes, &mut words);
+    let next = record::read(from, to, takes, &mut words)?;
     let Next::Record(head) = next else {
-        return false;
+        return Ok(false);
     };
     let given = outcome(
         head.number,
@@ -75,16 +80,16 @@ fn replay_next(
         left,
         &words,
     );
-    replay_tally::compare(names, head, &words, given, compared, differ);
+    replay_tally::compare(to, names, head, &words, given, compared, differ)?;
     if head.number < BUFFERS {
         let wrong = compare::wrong(frame, face, sphere, notes);
-        compare::count(names, BUFFERS, wrong, compared, differ);
+        compare::count(to, names, BUFFERS, wrong, compared, differ)?;
     }
-    true
+    Ok(true)
 }
 
 // Nothing says that the input ends, so the loop counts its records down from more than any list has.
-fn run(names: &[u8], takes: &[u8]) {
+fn run<R: Read, W: Write>(from: &mut R, to: &mut W, names: &[u8], takes: &[u8]) -> io::Result<()> {
     let mut frame = [0.0; FRAME];
     let mut face = [0.0; FACE_STORE];
     let mut sphere = [0.0; SPHERE_STORE];
@@ -96,6 +101,8 @@ fn run(names: &[u8], takes: &[u8]) {
     let mut unread: u32 = 0xffff_ffff;
     while unread > 0
         && replay_next(
+            from,
+            to,
             names,
             takes,
             &mut frame,
@@ -106,20 +113,22 @@ fn run(names: &[u8], takes: &[u8]) {
             &mut left,
             &mut compared,
             &mut differ,
-        )
+        )?
     {
         unread -= 1;
     }
     if unread == 0 {
-        report::too_long();
+        report::too_long(to)?;
     }
-    report::summaries(names, BOX, &compared, &differ);
+    report::summaries(to, names, BOX, &compared, &differ)
 }
 
 // The records' names and how many arguments each has, by their numbers, from 1.
-fn main() {
+fn main(rt: HostRuntime) -> io::Result<()> {
     run(
+        &mut rt.stdin(),
+        &mut rt.stdout(),
         b" region open region_with buffers point box position note fill put keep",
         b"053601134343",
-    );
+    )
 }

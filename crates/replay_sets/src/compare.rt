@@ -6,6 +6,8 @@ use crate::places::{FACE_AT, SPHERE_AT};
 use replay::outcome::Outcome;
 use replay::record::Head;
 use replay_numbers::unlike;
+use std::io;
+use std::io::Write;
 
 // How many numbers of the set are not as noted, in the first buffer where one is: none only where all are.
 pub fn wrong(frame: &[f64], face: &[f64], sphere: &[f64], notes: &[f64]) -> usize
@@ -25,13 +27,14 @@ pub fn wrong(frame: &[f64], face: &[f64], sphere: &[f64], notes: &[f64]) -> usiz
 }
 
 // Counts under a number whether the set is as noted. The stored answer is that no number is wrong.
-pub fn count(
+pub fn count<W: Write>(
+    to: &mut W,
     names: &[u8],
     number: u8,
     wrong: usize,
     compared: &mut [u64; 32],
     differ: &mut [u64; 32],
-) {
+) -> io::Result<()> {
     let words = [0u8; 96];
     let head = Head {
         number,
@@ -46,5 +49,5 @@ pub fn count(
         second: 0,
         third: 0,
     };
-    replay_tally::compare(names, head, &words, given, compared, differ);
+    replay_tally::compare(to, names, head, &words, given, compared, differ)
 }

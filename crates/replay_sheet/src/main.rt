@@ -2,9 +2,12 @@
 // compares what the call gives and every byte of the room that the page is a part of. It writes how many were compared and
 // how many differ, names each that differs, and says so where the list is malformed.
 #![tactic(auto)]
+
 ghost use Rattle.std.specs.Prelude.{◌≡◌, ◌<◌};
 
-use libc::{STDIN_FILENO, STDOUT_FILENO};
+use replay::record::read_full;
+use std::io;
+use std::io::{Read, Write};
 
 // What a record comes to.
 #[derive(Clone, Copy)]
@@ -13,16 +16,6 @@ enum Next {
     Differs,
     Malformed,
     Done,
-}
-
-// Writes a text.
-fn say(text: &[u8]) {
-    io::write_all(STDOUT_FILENO, text);
-}
-
-// Writes a number in decimal.
-fn decimal(n: u64) {
-    io::print_decimal(STDOUT_FILENO, n);
 }
 
 // A byte as a number of 32 bits.
@@ -74,51 +67,49 @@ fn print(head: &[u8; 51], room: &mut [u8]) -> u8 {
 }
 
 // Prints the next record, if there is one, and compares.
-fn replay_next() -> Next {
+fn replay_next<R: Read>(from: &mut R) -> io::Result<Next> {
     let mut head = [0u8; 51];
     let mut wanted = [0u8; 4864];
     let mut room = [b'#'; 4864];
-    let n = io::read_full(STDIN_FILENO, &mut head);
+    let n = read_full(from, &mut head)?;
     if n == 0 {
-        return Next::Done;
+        return Ok(Next::Done);
     }
     if n < 51 {
-        return Next::Malformed;
+        return Ok(Next::Malformed);
     }
-    let m = io::read_full(STDIN_FILENO, &mut wanted);
+    let m = read_full(from, &mut wanted)?;
     if m < 4864 {
-        return Next::Malformed;
+        return Ok(Next::Malformed);
     }
     let given = print(&head, &mut room);
     if given != head[50] {
-        return Next::Differs;
+        return Ok(Next::Differs);
     }
     match is_same(&room, &wanted) {
-        true => Next::Agrees,
-        false => Next::Differs,
+        true => Ok(Next::Agrees),
+        false => Ok(Next::Differs),
     }
 }
 
 // Nothing says that the input ends, so the loop counts its records down from more than any list has.
-fn main() {
+fn run<R: Read, W: Write>(from: &mut R, to: &mut W) -> io::Result<()> {
     let mut compared: u64 = 0;
     let mut differ: u64 = 0;
     let mut left: u32 = 0xffff_ffff;
     let mut more = true;
     while left > 0 && more {
-        match replay_next() {
+        match replay_next(from)? {
             Next::Agrees => {
                 compared = std::num::wrapping_add_u64(compared, 1);
             }
             Next::Differs => {
                 compared = std::num::wrapping_add_u64(compared, 1);
                 differ = std::num::wrapping_add_u64(differ, 1);
-                say(b"differs: page ");
-                decimal(compared);
-                say(b"\n");
+                writeln!(to, "differs: page {compared}")?;
             }
             Next::Malformed => {
-                say(b"malformed list\n");
+                to.write_all(b"malformed list\n")?;
                 more = false;
             }
             Next::Done => {
@@ -127,8 +118,9 @@ fn main() {
         }
         left -= 1;
     }
-    decimal(compared);
-    say(b" pages compared, ");
-    decimal(differ);
-    say(b" differ\n");
+    writeln!(to, "{compared} pages compared, {differ} differ")
+}
+
+fn main(rt: HostRuntime) -> io::Result<()> {
+    run(&mut rt.stdin(), &mut rt.stdout())
 }

@@ -3,10 +3,13 @@
 // sessions were compared and how many runs differ, names each run that differs, and says so where
 // the list is malformed.
 #![tactic(auto)]
-ghost use Rattle.std.specs.Prelude.{◌≡◌, ◌≤◌, min, length};
 
-use libc::{STDIN_FILENO, STDOUT_FILENO};
+ghost use Rattle.std.specs.Prelude.{◌≡◌, ◌≤◌, min, length, IfOk};
+
+use replay::record::read_full;
 use set::sizes::{FACE_STORE, FRAME, SPHERE_STORE};
+use std::io;
+use std::io::{Read, Write};
 use strike_feed::feed;
 use strike_session::session::{Stage, begin, finish};
 
@@ -25,12 +28,16 @@ struct Standing {
     written: usize,
 }
 
-fn say(text: &[u8]) {
-    io::write_all(STDOUT_FILENO, text);
+// Room for a session of the list, or for its lines.
+fn room() -> [u8; 4096]
+    ensures { 4096 ≡ length result }
+{
+    [0; 4096]
 }
 
-fn decimal(n: u64) {
-    io::print_decimal(STDOUT_FILENO, n);
+// Says that the list is malformed.
+fn malformed<W: Write>(to: &mut W) -> io::Result<()> {
+    to.write_all(b"malformed list\n")
 }
 
 fn least(a: usize, b: usize) -> usize
@@ -54,32 +61,32 @@ fn of_two(a: u8, b: u8) -> usize {
 }
 
 // Reads a part into the space for it.
-fn read_part(space: &mut [u8]) -> Part
-    ensures { result.count ≤ length space.new }
+fn read_part<R: Read, W: Write>(from: &mut R, to: &mut W, space: &mut [u8]) -> io::Result<Part>
+    ensures { IfOk result (λ part. part.count ≤ length space.new) }
 {
     let mut size = [0u8; 2];
-    let n = io::read_full(STDIN_FILENO, &mut size);
+    let n = read_full(from, &mut size)?;
     if n == 0 {
-        return none();
+        return Ok(none());
     }
     let count = of_two(size[0], size[1]);
     if n < 2 {
-        say(b"malformed list\n");
-        return none();
+        malformed(to)?;
+        return Ok(none());
     }
     if count > space.len() {
-        say(b"malformed list\n");
-        return none();
+        malformed(to)?;
+        return Ok(none());
     }
-    let got = io::read_full(STDIN_FILENO, &mut space[..count]);
+    let got = read_full(from, &mut space[..count])?;
     if got < count {
-        say(b"malformed list\n");
-        return none();
+        malformed(to)?;
+        return Ok(none());
     }
-    Part {
+    Ok(Part {
         is_there: true,
         count,
-    }
+    })
 }
 
 // Feeds what has arrived by now and was not taken.
@@ -162,57 +169,68 @@ fn run_session(input: &[u8], more: usize, lines: &mut [u8]) -> usize
 }
 
 // 1 where the lines of a run are not the stored ones, which is then said, and 0 otherwise.
-fn differs(number: u64, input: &[u8], stored: &[u8], more: usize) -> u64
-    ensures { result ≤ 1 }
+fn differs<W: Write>(
+    to: &mut W,
+    number: u64,
+    input: &[u8],
+    stored: &[u8],
+    more: usize,
+) -> io::Result<u64>
+    ensures { IfOk result (λ n. n ≤ 1) }
 {
-    let mut lines = io::buffer();
+    let mut lines = room();
     let n = run_session(input, more, &mut lines);
-    if check::same(&lines[..n], stored) {
-        return 0;
+    if lines[..n] == *stored {
+        return Ok(0);
     }
-    say(b"session ");
-    decimal(number);
-    say(b" differs in pieces of 1 byte and ");
-    decimal(more as u64);
-    say(b" more\n");
-    1
+    writeln!(
+        to,
+        "session {number} differs in pieces of 1 byte and {more} more"
+    )?;
+    Ok(1)
 }
 
 // How many of a session's four runs differ; 5 where there is no session more.
-fn replay_next(number: u64) -> u64
-    ensures { result ≤ 5 }
+fn replay_next<R: Read, W: Write>(from: &mut R, to: &mut W, number: u64) -> io::Result<u64>
+    ensures { IfOk result (λ n. n ≤ 5) }
 {
-    let mut input = io::buffer();
-    let mut stored = io::buffer();
-    let part = read_part(&mut input);
-    let lines = read_part(&mut stored);
+    let mut input = room();
+    let mut stored = room();
+    let part = read_part(from, to, &mut input)?;
+    let lines = read_part(from, to, &mut stored)?;
     if !part.is_there || !lines.is_there {
-        return 5;
+        return Ok(5);
     }
     let n = part.count;
     let m = lines.count;
-    differs(number, &input[..n], &stored[..m], 0)
-        + differs(number, &input[..n], &stored[..m], 2)
-        + differs(number, &input[..n], &stored[..m], 9)
-        + differs(number, &input[..n], &stored[..m], 4095)
+    Ok(
+        differs(to, number, &input[..n], &stored[..m], 0)?
+            + differs(to, number, &input[..n], &stored[..m], 2)?
+            + differs(to, number, &input[..n], &stored[..m], 9)?
+            + differs(to, number, &input[..n], &stored[..m], 4095)?,
+    )
 }
 
-fn report(compared: u64, differ: u64) {
-    decimal(compared);
-    say(b" sessions compared, each cut in 4 ways; ");
-    decimal(differ);
-    say(b" runs differ\n");
+fn report<W: Write>(to: &mut W, compared: u64, differ: u64) -> io::Result<()> {
+    writeln!(
+        to,
+        "{compared} sessions compared, each cut in 4 ways; {differ} runs differ"
+    )
 }
 
 // Nothing says that the list ends, so the loop counts its sessions up to more than any list has.
-fn main() {
+fn run<R: Read, W: Write>(from: &mut R, to: &mut W) -> io::Result<()> {
     let mut compared: u64 = 0;
     let mut differ: u64 = 0;
-    let mut d: u64 = replay_next(0);
+    let mut d: u64 = replay_next(from, to, 0)?;
     while compared < 0xffff_ffff && d < 5 {
         compared += 1;
         differ += d;
-        d = replay_next(compared);
+        d = replay_next(from, to, compared)?;
     }
-    report(compared, differ);
+    report(to, compared, differ)
+}
+
+fn main(rt: HostRuntime) -> io::Result<()> {
+    run(&mut rt.stdin(), &mut rt.stdout())
 }

@@ -1,6 +1,7 @@
 // Replays the oracle's stored list of the calls with a table: open, forward, inverse, place and unplace on a set, and nearest. After
 // each of them the whole set is compared with what it should hold. oracle/README.md has the records.
 #![tactic(auto)]
+
 mod ask;
 mod lent;
 mod notes;
@@ -13,6 +14,8 @@ use replay::{record, report};
 use replay_sets::compare;
 use replay_sets::given::done;
 use replay_sets::places::{FACE_STORE, FRAME, NO_SUCH_PLACE, SPHERE_STORE};
+use std::io;
+use std::io::{Read, Write};
 
 // The number that the comparisons of the set are counted under. No record has it.
 const BUFFERS: u8 = 8;
@@ -63,7 +66,9 @@ fn outcome(
 }
 
 // Reads one record and replays it. Answers whether there was one.
-fn replay_next(
+fn replay_next<R: Read, W: Write>(
+    from: &mut R,
+    to: &mut W,
     names: &[u8],
     takes: &[u8],
     frame: &mut [f64; FRAME],
@@ -72,23 +77,23 @@ fn replay_next(
     notes: &mut [f64; NOTES],
     compared: &mut [u64; 32],
     differ: &mut [u64; 32],
-) -> bool {
+) -> io::Result<bool> {
     let mut words = [0u8; 96];
-    let next = record::read(takes, &mut words);
+    let next = record::read(from, to, takes, &mut words)?;
     let Next::Record(head) = next else {
-        return false;
+        return Ok(false);
     };
     let given = outcome(head, frame, face, sphere, notes, &words);
-    replay_tally::compare(names, head, &words, given, compared, differ);
+    replay_tally::compare(to, names, head, &words, given, compared, differ)?;
     if head.number < BUFFERS {
         let wrong = compare::wrong(frame, face, sphere, notes);
-        compare::count(names, BUFFERS, wrong, compared, differ);
+        compare::count(to, names, BUFFERS, wrong, compared, differ)?;
     }
-    true
+    Ok(true)
 }
 
 // Nothing says that the input ends, so the loop counts its records down from more than any list has.
-fn run(names: &[u8], takes: &[u8]) {
+fn run<R: Read, W: Write>(from: &mut R, to: &mut W, names: &[u8], takes: &[u8]) -> io::Result<()> {
     let mut frame = [0.0; FRAME];
     let mut face = [0.0; FACE_STORE];
     let mut sphere = [0.0; SPHERE_STORE];
@@ -98,6 +103,8 @@ fn run(names: &[u8], takes: &[u8]) {
     let mut left: u32 = 0xffff_ffff;
     while left > 0
         && replay_next(
+            from,
+            to,
             names,
             takes,
             &mut frame,
@@ -106,20 +113,22 @@ fn run(names: &[u8], takes: &[u8]) {
             &mut notes,
             &mut compared,
             &mut differ,
-        )
+        )?
     {
         left -= 1;
     }
     if left == 0 {
-        report::too_long();
+        report::too_long(to)?;
     }
-    report::summaries(names, BUFFERS, &compared, &differ);
+    report::summaries(to, names, BUFFERS, &compared, &differ)
 }
 
 // The records' names and how many arguments each has, by their numbers, from 1.
-fn main() {
+fn main(rt: HostRuntime) -> io::Result<()> {
     run(
+        &mut rt.stdin(),
+        &mut rt.stdout(),
         b" forward_with inverse_with place_with unplace_with open_with lent nearest_with buffers note fill put keep",
         b"0443448304342",
-    );
+    )
 }

@@ -4,6 +4,7 @@
 // gather what those calls have written there since the last open that answered: after each call the set's stores must equal them in
 // every number, and its frame that open's.
 #![tactic(auto)]
+
 mod counts;
 mod due;
 mod lists;
@@ -12,12 +13,14 @@ mod tables;
 use open_calls::open;
 use replay::report;
 use set::sizes::{FACE_STORE, FRAME, SPHERE_STORE};
+use std::io;
+use std::io::Write;
 
 // What the set holds before open: a number that is no mark, and that no call writes.
 const FOREIGN: f64 = 7.5;
 
 // The names stand in the order of the counts.
-fn run(names: &[u8]) {
+fn run<W: Write>(to: &mut W, names: &[u8]) -> io::Result<()> {
     let mut frame = [FOREIGN; FRAME];
     let mut face = [FOREIGN; FACE_STORE];
     let mut sphere = [FOREIGN; SPHERE_STORE];
@@ -31,11 +34,12 @@ fn run(names: &[u8]) {
         &mut compared,
         &mut differ,
     );
-    report::summaries(names, 13, &compared, &differ);
+    report::summaries(to, names, 13, &compared, &differ)
 }
 
-fn main() {
+fn main(rt: HostRuntime) -> io::Result<()> {
     run(
+        &mut rt.stdout(),
         b" set_with open_with open_with_refused forward_with inverse_with place_with unplace_with list_with region_with step_with show companion companion_refused",
-    );
+    )
 }

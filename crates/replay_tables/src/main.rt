@@ -3,10 +3,13 @@
 // is saved again, and must give the same bytes. It writes how many files were compared and how many differ, by the
 // stored status, names each record that differs, and says so where the list is malformed.
 #![tactic(auto)]
+
 ghost use Rattle.std.specs.Prelude.{◌+◌, ◌<◌, ◌≤◌};
 
-use libc::{STDIN_FILENO, STDOUT_FILENO};
+use replay::record::read_full;
 use replay::report;
+use std::io;
+use std::io::{Read, Write};
 
 // The longest file that a record may have.
 const ROOM: usize = 800;
@@ -65,7 +68,7 @@ fn saves(table: [f64; 84], file: &[u8]) -> bool {
     if answer::status(saved) != 0 {
         return false;
     }
-    check::same(&back, file)
+    back == *file
 }
 
 // Loads a file, and says whether the status and the table are then the stored ones.
@@ -102,10 +105,8 @@ fn count(counts: &mut [u64; 32], number: usize)
     counts[number] = std::num::wrapping_add_u64(counts[number], 1);
 }
 
-fn difference(number: u64) {
-    io::write_all(STDOUT_FILENO, b"record ");
-    io::print_decimal(STDOUT_FILENO, number);
-    io::write_all(STDOUT_FILENO, b" differs\n");
+fn difference<W: Write>(to: &mut W, number: u64) -> io::Result<()> {
+    writeln!(to, "record {number} differs")
 }
 
 // The length in the first two bytes of a record.
@@ -114,9 +115,10 @@ fn size(head: &[u8; 3]) -> usize {
 }
 
 // Whether as many bytes follow.
-fn fill(room: &mut [u8]) -> bool {
+fn fill<R: Read>(from: &mut R, room: &mut [u8]) -> io::Result<bool> {
     let wanted = room.len();
-    io::read_full(STDIN_FILENO, room) == wanted
+    let got = read_full(from, room)?;
+    Ok(got == wanted)
 }
 
 // What became of a record.
@@ -128,73 +130,84 @@ enum Replayed {
 }
 
 // Reads the rest of a record with room for its file, and replays it.
-fn replay_file(file: &mut [u8], status: u8) -> Replayed {
+fn replay_file<R: Read>(from: &mut R, file: &mut [u8], status: u8) -> io::Result<Replayed> {
     let mut stored = [0u8; 672];
-    if !fill(file) {
-        return Replayed::CutOff;
+    if !fill(from, file)? {
+        return Ok(Replayed::CutOff);
     }
     if status == 0 {
-        if !fill(&mut stored) {
-            return Replayed::CutOff;
+        if !fill(from, &mut stored)? {
+            return Ok(Replayed::CutOff);
         }
     }
     if agrees(file, status, &stored) {
-        Replayed::Agrees
+        Ok(Replayed::Agrees)
     } else {
-        Replayed::Differs
+        Ok(Replayed::Differs)
     }
 }
 
 // Reads one record and replays it. Answers whether there was one.
-fn replay_next(number: u64, compared: &mut [u64; 32], differ: &mut [u64; 32]) -> bool {
+fn replay_next<R: Read, W: Write>(
+    from: &mut R,
+    to: &mut W,
+    number: u64,
+    compared: &mut [u64; 32],
+    differ: &mut [u64; 32],
+) -> io::Result<bool> {
     let mut head = [0u8; 3];
-    let got = io::read_full(STDIN_FILENO, &mut head);
+    let got = read_full(from, &mut head)?;
     if got == 0 {
-        return false;
+        return Ok(false);
     }
     if got < 3 {
-        report::cut_off();
-        return false;
+        report::cut_off(to)?;
+        return Ok(false);
     }
     let n = size(&head);
     if n > ROOM {
-        report::cut_off();
-        return false;
+        report::cut_off(to)?;
+        return Ok(false);
     }
     let mut file = [0u8; ROOM];
     let of = line(head[2]);
-    match replay_file(&mut file[..n], head[2]) {
+    match replay_file(from, &mut file[..n], head[2])? {
         Replayed::CutOff => {
-            report::cut_off();
-            return false;
+            report::cut_off(to)?;
+            return Ok(false);
         }
         Replayed::Agrees => {
             count(compared, of);
         }
         Replayed::Differs => {
             count(compared, of);
-            difference(number);
             count(differ, of);
+            difference(to, number)?;
         }
     }
-    true
+    Ok(true)
 }
 
 // Nothing says that the input ends, so the loop counts its records up to more than any list has.
-fn main() {
+fn run<R: Read, W: Write>(from: &mut R, to: &mut W) -> io::Result<()> {
     let mut compared = [0u64; 32];
     let mut differ = [0u64; 32];
     let mut number: u64 = 0;
-    while number < 0xffff_ffff && replay_next(number, &mut compared, &mut differ) {
+    while number < 0xffff_ffff && replay_next(from, to, number, &mut compared, &mut differ)? {
         number += 1;
     }
     if number == 0xffff_ffff {
-        report::too_long();
+        report::too_long(to)?;
     }
     report::summaries(
+        to,
         b" loaded refused_20 refused_21 refused_22",
         4,
         &compared,
         &differ,
-    );
+    )
+}
+
+fn main(rt: HostRuntime) -> io::Result<()> {
+    run(&mut rt.stdin(), &mut rt.stdout())
 }

@@ -1,6 +1,7 @@
 // Outcomes compared with those that the oracle's records store: how many of each function were compared, and how many
 // differ. A function's number is its place in the counts.
 #![tactic(auto)]
+
 ghost use Rattle.std.specs.Prelude.{◌≡◌, ◌<◌};
 ghost use Rattle.replay_tally.specs.Compared.{same, stored_in};
 ghost use Rattle.replay_tally.specs.Tally.{counted, counted_unless, within};
@@ -8,6 +9,8 @@ ghost use Rattle.replay_tally.specs.Tally.{counted, counted_unless, within};
 use replay::outcome::Outcome;
 use replay::record::{Head, word};
 use replay::report;
+use std::io;
+use std::io::Write;
 
 // Whether two outcomes are the same in every place.
 pub fn agree(a: Outcome, b: Outcome) -> bool
@@ -51,29 +54,32 @@ fn count(counts: &mut [u64; 32], number: usize)
 
 // Counts the outcome that was given, and whether it differs from the record's. Of each function the first three
 // records that differ are shown. A number beyond the counts is not counted.
-pub fn compare(
+pub fn compare<W: Write>(
+    to: &mut W,
     names: &[u8],
     head: Head,
     words: &[u8; 96],
     given: Outcome,
     compared: &mut [u64; 32],
     differ: &mut [u64; 32],
-)
+) -> io::Result<()>
     ensures compared { compared.new ≡ within head.number compared.old (counted compared.old head.number) }
     ensures differ { differ.new ≡ within head.number differ.old
         (counted_unless (same given (stored_in head words.now)) differ.old head.number) }
 {
     let number = head.number as usize;
     if number > 31 {
-        return;
+        return Ok(());
     }
     let expected = stored(head, words);
     count(compared, number);
     if agree(given, expected) {
-        return;
+        return Ok(());
     }
-    if differ[number] < 3 {
-        report::difference(names, head, words, expected, given);
-    }
+    let before = differ[number];
     count(differ, number);
+    if before < 3 {
+        return report::difference(to, names, head, words, expected, given);
+    }
+    Ok(())
 }

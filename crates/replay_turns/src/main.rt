@@ -2,10 +2,13 @@
 // for grants, also those that were not lent. It writes how many turns were compared and how many differ, by the stored
 // status, names each record that differs, and says so where the list is malformed.
 #![tactic(auto)]
+
 ghost use Rattle.std.specs.Prelude.{◌≡◌, ◌+◌, ◌*◌, ◌<◌, ◌≤◌, true, length};
 
-use libc::{STDIN_FILENO, STDOUT_FILENO};
+use replay::record::read_full;
 use replay::report;
+use std::io;
+use std::io::{Read, Write};
 
 // A byte as a number of 16 bits.
 fn wide(x: u8) -> u16
@@ -98,42 +101,50 @@ fn count(counts: &mut [u64; 32], number: usize)
     counts[number] = std::num::wrapping_add_u64(counts[number], 1);
 }
 
-fn difference(number: u64) {
-    io::write_all(STDOUT_FILENO, b"record ");
-    io::print_decimal(STDOUT_FILENO, number);
-    io::write_all(STDOUT_FILENO, b" differs\n");
+fn difference<W: Write>(to: &mut W, number: u64) -> io::Result<()> {
+    writeln!(to, "record {number} differs")
 }
 
 // Reads one record and replays it. Answers whether there was one.
-fn replay_next(number: u64, compared: &mut [u64; 32], differ: &mut [u64; 32]) -> bool {
+fn replay_next<R: Read, W: Write>(
+    from: &mut R,
+    to: &mut W,
+    number: u64,
+    compared: &mut [u64; 32],
+    differ: &mut [u64; 32],
+) -> io::Result<bool> {
     let mut record = [0u8; 123];
-    let size = io::read_full(STDIN_FILENO, &mut record);
+    let size = read_full(from, &mut record)?;
     if size == 0 {
-        return false;
+        return Ok(false);
     }
     if size < 123 {
-        report::cut_off();
-        return false;
+        report::cut_off(to)?;
+        return Ok(false);
     }
     let of = line(record[2]);
     count(compared, of);
     if !replay_record(&record) {
-        difference(number);
         count(differ, of);
+        difference(to, number)?;
     }
-    true
+    Ok(true)
 }
 
 // Nothing says that the input ends, so the loop counts its records up to more than any list has.
-fn main() {
+fn run<R: Read, W: Write>(from: &mut R, to: &mut W) -> io::Result<()> {
     let mut compared = [0u64; 32];
     let mut differ = [0u64; 32];
     let mut number: u64 = 0;
-    while number < 0xffff_ffff && replay_next(number, &mut compared, &mut differ) {
+    while number < 0xffff_ffff && replay_next(from, to, number, &mut compared, &mut differ)? {
         number += 1;
     }
     if number == 0xffff_ffff {
-        report::too_long();
+        report::too_long(to)?;
     }
-    report::summaries(b" granted refused_24 refused_25", 3, &compared, &differ);
+    report::summaries(to, b" granted refused_24 refused_25", 3, &compared, &differ)
+}
+
+fn main(rt: HostRuntime) -> io::Result<()> {
+    run(&mut rt.stdin(), &mut rt.stdout())
 }

@@ -3,9 +3,12 @@
 // writes a line for each function: how many outcomes were compared, and how many differ. It shows the first three records
 // of each function that differ, and says so where the list is malformed.
 #![tactic(auto)]
+
 use replay::outcome::{Outcome, refused};
 use replay::record::{Next, word};
 use replay::{record, report};
+use std::io;
+use std::io::{Read, Write};
 use window::State;
 
 // What a record comes to, and the window's state after it.
@@ -121,41 +124,44 @@ fn replay_one(
 }
 
 // Reads one record and replays it.
-fn replay_next(
+fn replay_next<R: Read, W: Write>(
+    from: &mut R,
+    to: &mut W,
     minutes: &mut [u32; 4096],
     origins: &mut [u8; 4096],
     counts: &mut [u32; 12],
     state: State,
     compared: &mut [u64; 32],
     differ: &mut [u64; 32],
-) -> Progress {
+) -> io::Result<Progress> {
     let mut words = [0u8; 96];
-    let next = record::read(b"01211", &mut words);
+    let next = record::read(from, to, b"01211", &mut words)?;
     let Next::Record(head) = next else {
-        return Progress {
+        return Ok(Progress {
             is_there: false,
             state,
-        };
+        });
     };
     let done = replay_one(head.number, &words, minutes, origins, counts, state);
     let given = done.outcome;
     let after = done.state;
     replay_tally::compare(
+        to,
         b" new add count strike",
         head,
         &words,
         given,
         compared,
         differ,
-    );
-    Progress {
+    )?;
+    Ok(Progress {
         is_there: true,
         state: after,
-    }
+    })
 }
 
 // Nothing says that the input ends, so the loop counts its records down from more than any list has.
-fn main() {
+fn run<R: Read, W: Write>(from: &mut R, to: &mut W) -> io::Result<()> {
     let mut minutes = [0u32; 4096];
     let mut origins = [0u8; 4096];
     let mut counts = [0u32; 12];
@@ -173,17 +179,23 @@ fn main() {
     while left > 0 && progress.is_there {
         let state = progress.state;
         progress = replay_next(
+            from,
+            to,
             &mut minutes,
             &mut origins,
             &mut counts,
             state,
             &mut compared,
             &mut differ,
-        );
+        )?;
         left -= 1;
     }
     if left == 0 {
-        report::too_long();
+        report::too_long(to)?;
     }
-    report::summaries(b" new add count strike", 4, &compared, &differ);
+    report::summaries(to, b" new add count strike", 4, &compared, &differ)
+}
+
+fn main(rt: HostRuntime) -> io::Result<()> {
+    run(&mut rt.stdin(), &mut rt.stdout())
 }
