@@ -2,6 +2,7 @@
 // window and the page; `print` does the work, on the counts alone. Neither has a `requires`: whatever the window holds,
 // every byte of the page is defined.
 #![tactic(auto)]
+
 ghost use Rattle.std.specs.Prelude.{◌≡◌, length};
 ghost use Rattle.sheet_lines.specs.Page.{page_of};
 ghost use Rattle.sheet.specs.Sheet.{SheetOf};

@@ -1,8 +1,7 @@
 -- `sheet::print` meets its contract: by the page's length. Assumes nothing.
-use mathlib.Core.Path.{◌≡◌, refl, sym, ap, ◌∙◌}
+use mathlib.Core.Path.{◌≡◌, sym, ap, ◌∙◌}
 use mathlib.Core.List.{List}
 use Prim.Native.Nat.{ℕ}
-use borrow.Author.Rules.{rules}
 use borrow.Author.Tests.{eq-eqb, ne_eqb}
 use lib.ListN.{length}
 use Rattle.answer.specs.Given.{Given, refused, passed}
@@ -10,8 +9,7 @@ use Rattle.sheet_lines.specs.Page.{page_of}
 use Rattle.sheet.specs.Sheet.{PAGE, sheet_given, page_after, SheetOf}
 use Rattle.answer.specs.declared.Check.TheVariants as check
 use Rattle.answer.specs.declared.Refusal.TheVariants as refusal
-use Rattle.sheet.proofs.print.Statement.{statement}
-use Rattle.sheet.proofs.print.Tie as tie
+use Rattle.sheet.proofs.print.Goals as goal
 
 module _ (counts page : List ℕ) where
   wrong : (length page ≡ PAGE → ⊥) → sheet_given page ≡ refused 26
@@ -32,14 +30,9 @@ module _ (counts page : List ℕ) where
       let given = right h in
       record { answer = sym given; page = e ∙ sym (ap (λ (g : Given (Unit {0})). page_after g counts page) given) }
 
-returns : tie.Need-returns
-returns c = refuses _ _ c.if1.true
+pub returns-then-page-ne-PAGE : goal.returns-then-page-ne-PAGE
+returns-then-page-ne-PAGE c = refuses _ _ c.if-page-ne-PAGE.true
 
-returns-2 : tie.Need-returns-2
-returns-2 c =
-    let written = c.before.before in
-    let tested = written.before.before.before in
-    prints _ _ tested.if1.false _ written.write-page.ensures
-
-pub print_spec : {M : Type 1} → statement M
-print_spec = tie.close (tie.spec returns (λ c κs. search rules) (λ c. search rules) returns-2)
+pub returns : goal.returns
+returns c =
+    prints _ _ c.if-page-ne-PAGE.false _ c.write_page.ensures
