@@ -1,5 +1,6 @@
 // Runs of numbers in a buffer: whether they are there, and whether they are those of another.
 #![tactic(auto)]
+
 ghost use Rattle.std.specs.Prelude.{◌≡◌, ◌+◌, ◌≤◌, false, length};
 ghost use Rattle.replay_numbers.specs.Alike.{AlikeFrom};
 
