@@ -1,12 +1,13 @@
 // The strike program: reads a session from standard input and writes its lines to standard output.
 // A write that fails ends the program.
 #![tactic(auto)]
+
 ghost use Rattle.std.specs.Prelude.{◌≡◌, ◌≤◌, length};
 ghost use Rattle.set.specs.Outcome.{lent};
 ghost use Rattle.strike_reads.specs.Steps.{Begins, Roomy, state_of, begun, Ended};
 
-use libc::STDOUT_FILENO;
 use set::sizes::{FACE_STORE, FRAME, SPHERE_STORE};
+use std::io::{Read, Write};
 use strike_input::read_all;
 use strike_session::session::{Stage, begin, finish};
 
@@ -21,7 +22,9 @@ struct Last {
 }
 
 // All reads, and behind them the last line, if there is one.
-fn answer_all(
+fn answer_all<R: Read, W: Write>(
+    from: &mut R,
+    to: &mut W,
     stage: Stage,
     frame: &[f64],
     face_store: &mut [f64],
@@ -36,7 +39,16 @@ fn answer_all(
         result.written out.new }
     ensures held { result.written ≤ length out.new }
 {
-    let at = read_all(stage, frame, face_store, sphere_store, buffer, out);
+    let at = read_all(
+        from,
+        to,
+        stage,
+        frame,
+        face_store,
+        sphere_store,
+        buffer,
+        out,
+    );
     let last = at.stage;
     let written = finish(last, at.kept, out);
     Last {
@@ -49,7 +61,9 @@ fn answer_all(
 
 // A whole session on any set. Where open refuses there is one line, and the session is over: so it does
 // not matter whether that line is written. After a write that failed nothing more is written.
-fn run(
+fn run<R: Read, W: Write>(
+    from: &mut R,
+    to: &mut W,
     frame: &mut [f64],
     face_store: &mut [f64],
     sphere_store: &mut [f64],
@@ -64,12 +78,28 @@ fn run(
 {
     let begun = begin(frame, face_store, sphere_store, out);
     let stage = begun.stage;
-    io::write_all(STDOUT_FILENO, &out[..begun.written]);
-    let last = answer_all(stage, frame, face_store, sphere_store, buffer, out);
+    let _ = to.write_all(&out[..begun.written]);
+    let last = answer_all(
+        from,
+        to,
+        stage,
+        frame,
+        face_store,
+        sphere_store,
+        buffer,
+        out,
+    );
     if !last.lost {
-        io::write_all(STDOUT_FILENO, &out[..last.written]);
+        let _ = to.write_all(&out[..last.written]);
     }
     last
+}
+
+// As many zeros as one read brings bytes at most.
+fn buffer() -> [u8; 65536]
+    ensures { 65536 ≡ length result }
+{
+    [0; 65536]
 }
 
 // The buffer's 65,536 bytes hold at most 6,553 whole records; here is room for 6,554 lines.
@@ -79,13 +109,15 @@ fn room() -> [u8; 262160]
     [0; 262160]
 }
 
-fn main() {
+fn main(rt: HostRuntime) {
     let mut frame = [0.0; FRAME];
     let mut face_store = [0.0; FACE_STORE];
     let mut sphere_store = [0.0; SPHERE_STORE];
-    let mut buffer = io::large_buffer();
+    let mut buffer = buffer();
     let mut out = room();
     run(
+        &mut rt.stdin(),
+        &mut rt.stdout(),
         &mut frame,
         &mut face_store,
         &mut sphere_store,

@@ -1,16 +1,20 @@
 // The strike program's input, read to its end step by step.
 #![tactic(auto)]
+
 ghost use Rattle.std.specs.Prelude.{◌≡◌, true, ◌≤◌, length};
 ghost use Rattle.set.specs.Outcome.{lent};
 ghost use Rattle.strike_reads.specs.Steps.{Begins, Roomy, state_of, Read};
 
+use std::io::{Read, Write};
 use strike_session::session::Stage;
 use strike_step::{Standing, step};
 
 // All reads of a session. A loop has to end, and nothing says that the input does, so the reads are counted. The most
 // records and the header have 42,949,672,955 bytes, of which each read brings one at least. So the
 // count never ends a session: all reads end by a step that ends the program.
-pub fn read_all(
+pub fn read_all<R: Read, W: Write>(
+    from: &mut R,
+    to: &mut W,
     stage: Stage,
     frame: &[f64],
     face_store: &mut [f64],
@@ -33,7 +37,7 @@ pub fn read_all(
     };
     let mut reads: u64 = 42_949_672_960;
     while reads > 0 && !at.ended {
-        at = step(at, frame, face_store, sphere_store, buffer, out);
+        at = step(from, to, at, frame, face_store, sphere_store, buffer, out);
         reads -= 1;
     }
     at

@@ -1,24 +1,30 @@
 // The strike program's reads: what they come to, for whatever bytes they bring (specs/Steps), and a read behind the bytes that
 // are kept. A read that fails counts as the input's end.
 #![tactic(auto)]
-ghost use Rattle.std.specs.Prelude.{◌≡◌, ◌+◌, ◌≤◌, ◌<◌, length, take};
 
-use libc::STDIN_FILENO;
+ghost use Rattle.std.specs.Prelude.{◌≡◌, ◌+◌, ◌≤◌, ◌<◌, length, take, drop};
+ghost use Rattle.std.specs.Io.KnownBytes.{Consumes};
+
+use std::io::Read;
 
 // How many bytes a read brought; none at the input's end, since there is room for some.
-fn read(space: &mut [u8]) -> usize
+fn read<R: Read>(from: &mut R, space: &mut [u8]) -> usize
     requires { 0 < length space.old }
-    ensures { result ≤ length space.new }
+    ensures result_in_bounds { result ≤ length space.new }
+    ensures bytes { Consumes (R.remaining from.old) (R.remaining from.new) (take result space.new) }
 {
-    let got = libc::read(STDIN_FILENO, space);
-    io::count(got, space)
+    match from.read(space) {
+        Ok(n) => n,
+        Err(_) => 0,
+    }
 }
 
 // The same behind the bytes that are kept, which stay.
-pub fn read_behind(buffer: &mut [u8], kept: usize) -> usize
+pub fn read_behind<R: Read>(from: &mut R, buffer: &mut [u8], kept: usize) -> usize
     requires { kept < length buffer.old }
     ensures result_in_bounds { kept + result ≤ length buffer.new }
+    ensures bytes { Consumes (R.remaining from.old) (R.remaining from.new) (take result (drop kept buffer.new)) }
     ensures buffer_unchanged { take kept buffer.new ≡ take kept buffer.old }
 {
-    read(&mut buffer[kept..])
+    read(from, &mut buffer[kept..])
 }

@@ -1,12 +1,13 @@
 // A step of the strike program: a read brings bytes of the session, and the lines of what has arrived then are written. A write
 // that fails ends the session.
 #![tactic(auto)]
+
 ghost use Rattle.std.specs.Prelude.{◌≡◌, false, ◌≤◌, ◌<◌, length};
 ghost use Rattle.set.specs.Outcome.{lent};
 ghost use Rattle.strike_reads.specs.Steps.{state_of, Stepped};
 ghost use Rattle.strike_session.specs.Pieces.{over};
 
-use libc::STDOUT_FILENO;
+use std::io::{Read, Write};
 use strike_buffer::feed_buffer;
 use strike_reads::read_behind;
 use strike_session::session::{Stage, is_over};
@@ -22,7 +23,9 @@ pub struct Standing {
 }
 
 // One read, and the lines of what has arrived then.
-pub fn step(
+pub fn step<R: Read, W: Write>(
+    from: &mut R,
+    to: &mut W,
     at: Standing,
     frame: &[f64],
     face_store: &mut [f64],
@@ -47,7 +50,7 @@ pub fn step(
             lost: false,
         };
     }
-    let n = read_behind(buffer, kept);
+    let n = read_behind(from, buffer, kept);
     if n == 0 {
         return Standing {
             stage,
@@ -65,7 +68,7 @@ pub fn step(
         kept + n,
         out,
     );
-    let lost = !io::write_all(STDOUT_FILENO, &out[..turn.written]);
+    let lost = to.write_all(&out[..turn.written]).is_err();
     let next = turn.stage;
     Standing {
         stage: next,
