@@ -180,7 +180,7 @@ fn differs<W: Write>(
 {
     let mut lines = room();
     let n = run_session(input, more, &mut lines);
-    if lines[..n] == *stored {
+    if &lines[..n] == stored {
         return Ok(0);
     }
     writeln!(

@@ -68,7 +68,7 @@ fn saves(table: [f64; 84], file: &[u8]) -> bool {
     if answer::status(saved) != 0 {
         return false;
     }
-    back == *file
+    back.as_slice() == file
 }
 
 // Loads a file, and says whether the status and the table are then the stored ones.
