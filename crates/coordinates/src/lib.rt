@@ -1,6 +1,7 @@
 // Coordinate systems, with the Rust's module names, the checks of positions and face points, and the definitions of the
 // changes between them, which are functions of crates vector, authalic and transforms.
 #![tactic(auto)]
+
 pub mod base;
 pub mod conversions;
 pub mod coords;
