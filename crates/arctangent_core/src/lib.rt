@@ -1,6 +1,7 @@
 // Core (document 01, "Elementary steps"): the angle of a tangent in 0..1, alone, of two tangents at
 // once, and beside a square root.
 #![tactic(auto)]
+
 ghost use Rattle.std.specs.Prelude.{◌≡◌};
 ghost use Rattle.arithmetic.specs.Arith.{ieee};
 ghost use Rattle.arithmetic.specs.Sqrt.{sqrt};

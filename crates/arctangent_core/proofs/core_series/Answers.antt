@@ -3,9 +3,8 @@ use mathlib.Core.Path.{refl}
 use lib.Ieee.{of_bits}
 use Rattle.elementary.specs.Constants.{core_first, core_rest}
 use Rattle.elementary.specs.Sine.{series}
-use Rattle.arctangent_core.proofs.core_series.Statement.{statement}
-use Rattle.arctangent_core.proofs.core_series.Tie as tie
+use Rattle.arctangent_core.proofs.core_series.Goals as goal
 
-pub core_series_spec : {M : Type 1} → statement M
+pub returns : goal.returns
 unfolding series core_first core_rest of_bits
-core_series_spec = tie.close (tie.spec (λ c. refl))
+returns c = refl

@@ -1,0 +1,8 @@
+-- `core` meets its contract. Assumes nothing.
+use lib.Ieee.{of_bits}
+use Rattle.elementary.specs.Arctangent.{core}
+use Rattle.arctangent_core.proofs.core.Goals as goal
+
+pub returns : goal.returns
+unfolding core of_bits
+returns c = rw (c.core_series.ensures, c.halved-t.ensures, c.halved.ensures)

@@ -1,0 +1,10 @@
+-- `core_and_sqrt` meets its contract. Assumes nothing.
+use lib.Ieee.{of_bits}
+use Rattle.elementary.specs.Arctangent.{halved, core}
+use Rattle.arctangent_core.proofs.core_and_sqrt.Goals as goal
+
+pub returns : goal.returns
+unfolding core halved of_bits
+returns c =
+    let roots = c.sqrt_both-roots.ensures in
+    (rw (c.core_series.ensures, c.halved-t.ensures, roots.0), roots.1)
