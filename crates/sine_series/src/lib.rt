@@ -1,6 +1,7 @@
 // The sine and cosine series, and the pair after so many quarter turns and what is left of an angle
 // (document 01, "Elementary steps").
 #![tactic(auto)]
+
 ghost use Rattle.std.specs.Prelude.{◌≡◌};
 ghost use Rattle.std.specs.Float.{binary64};
 ghost use Rattle.std.specs.Float.Ieee.{mul};

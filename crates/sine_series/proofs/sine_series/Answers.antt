@@ -3,9 +3,8 @@ use mathlib.Core.Path.{refl}
 use lib.Ieee.{of_bits}
 use Rattle.elementary.specs.Constants.{sine_first, sine_rest}
 use Rattle.elementary.specs.Sine.{series}
-use Rattle.sine_series.proofs.sine_series.Statement.{statement}
-use Rattle.sine_series.proofs.sine_series.Tie as tie
+use Rattle.sine_series.proofs.sine_series.Goals as goal
 
-pub sine_series_spec : {M : Type 1} → statement M
+pub returns : goal.returns
 unfolding series sine_first sine_rest of_bits
-sine_series_spec = tie.close (tie.spec (λ c. refl))
+returns c = refl
