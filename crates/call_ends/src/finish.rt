@@ -4,7 +4,7 @@ ghost use Rattle.std.specs.Float.{binary64};
 ghost use Rattle.std.specs.Float.Ieee.{sub};
 ghost use Rattle.answer.specs.Given.{answered};
 ghost use Rattle.arithmetic.specs.Arith.{ieee};
-ghost use Rattle.elementary.specs.Constants.{FRAC-PI-2};
+ghost use Rattle.elementary.specs.Constants.{FRAC_PI_2};
 ghost use Rattle.elementary.specs.Sine.{outside};
 ghost use Rattle.coordinates.specs.CoordinateTransforms.{to_lon_lat};
 ghost use Rattle.coordinates.specs.Conversions.{finite_face, finite_spherical, finite_lon_lat};
@@ -72,7 +72,7 @@ pub fn finish_place(origin: u8, core: FaceWork) -> PlaceWork
 
 // Unplace's end: to longitude and latitude, and 9 unless both are finite.
 pub fn finish_lon_lat(core: SphericalWork) -> LonLatWork
-    requires { (w : Work Spherical) → given_spherical_work core ≡ answered w → outside (sub binary64 FRAC-PI-2 w.answer.phi.0) ≡ false }
+    requires { (w : Work Spherical) → given_spherical_work core ≡ answered w → outside (sub binary64 FRAC_PI_2 w.answer.phi.0) ≡ false }
     ensures { given_lon_lat_work result ≡ finish (given_spherical_work core) (λ p. finite_lon_lat (to_lon_lat ieee p)) }
 {
     match core {

@@ -1,13 +1,14 @@
 // Sine, cosine and tangent of an argument that is proved not to be outside: finite numbers beyond ±64
 // are (Paper 7). An angle is reduced to what is left of it after quarter turns.
 #![tactic(auto)]
+
 ghost use Rattle.std.specs.Prelude.{◌≡◌, true, false};
 ghost use Rattle.std.specs.Float.{binary64};
 ghost use Rattle.std.specs.Float.Ieee.{mul, rem, lt};
 ghost use Rattle.answer.specs.Number.{is_finite};
 ghost use Rattle.arithmetic.specs.Arith.{ieee};
 ghost use Rattle.float_parts.specs.Signs.{abs};
-ghost use Rattle.elementary.specs.Constants.{TAU, FRAC-2-PI};
+ghost use Rattle.elementary.specs.Constants.{TAU, FRAC_2_PI};
 ghost use Rattle.elementary.specs.Whole.{roundℤ};
 ghost use Rattle.elementary.specs.Sine.{outside, modulo4, whole_float, sin_cos_reduced, sin_cos, sin, cos, tan};
 
@@ -53,8 +54,8 @@ struct Nearest {
 // n's sign comes by 0.0 - w, not -w: a whole number has no -0.
 fn quarters(y: f64) -> Nearest
     requires { lt (abs y) TAU ≡ true }
-    ensures n_is { result.n ≡ whole_float ieee (roundℤ (mul binary64 y FRAC-2-PI)) }
-    ensures quarter_is { result.quarter ≡ modulo4 (roundℤ (mul binary64 y FRAC-2-PI)) }
+    ensures n_is { result.n ≡ whole_float ieee (roundℤ (mul binary64 y FRAC_2_PI)) }
+    ensures quarter_is { result.quarter ≡ modulo4 (roundℤ (mul binary64 y FRAC_2_PI)) }
 {
     let q = y * FRAC_2_PI;
     let k = elementary::whole::nearest_size(size(q));
