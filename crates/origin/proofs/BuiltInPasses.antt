@@ -1,7 +1,6 @@
 -- The built-in table passes 21 and 22. Computed. Assumes nothing.
 use mathlib.Core.Path.{◌≡◌, refl, ap, ◌∙◌}
-use mathlib.Core.List.{List}
-use lib.Ieee.{Float, of_bits, le, lt, eq, neg}
+use lib.Ieee.{of_bits, le, lt, eq, neg}
 use Rattle.answer.specs.Given.{passed}
 use Rattle.answer.specs.Number.{is_finite}
 use Rattle.arithmetic.specs.Arith.{Arith, ieee}

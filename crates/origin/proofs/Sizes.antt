@@ -12,9 +12,8 @@ use lib.Ieee.{Float, nan, fin, le, neg, of_bits}
 use lib.Ieee.Bits.{is_true}
 use lib.Ieee.Fits.{and_l, and_r}
 use borrow.Author.Tests.{ltb-true, ltb-false}
-use Rattle.answer.specs.Given.{passed}
 use Rattle.answer.specs.Number.{is_finite}
-use Rattle.arithmetic.specs.Arith.{Arith, ieee}
+use Rattle.arithmetic.specs.Arith.{ieee}
 use Rattle.arithmetic.specs.Numbers.{1·0}
 use Rattle.arithmetic.proofs.Bounds.{between_within}
 use Rattle.arithmetic.proofs.Bounded.{Bounded, bounded, bounded_nan}
@@ -23,7 +22,7 @@ use Rattle.elementary.proofs.Inside.{not_beyond}
 use Rattle.coordinates.specs.Constants.{8·0}
 use Rattle.coordinates.proofs.Sizes.{inside_8}
 use Rattle.origin.specs.Origins.{ORIGINS, origin_at}
-use Rattle.origin.specs.Table.{within, sound, row_sound, every_row, numbers_sound, check_table}
+use Rattle.origin.specs.Table.{within, sound, row_sound, every_row, numbers_sound}
 use Rattle.origin.specs.declared.utils.Origin.{Origin}
 use Rattle.origin.proofs.BuiltIn.{built_in_rows}
 use Rattle.origin.proofs.BuiltInPasses.{built_in_passes}

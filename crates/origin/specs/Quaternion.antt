@@ -1,5 +1,5 @@
 -- core/dodecahedron_quaternions.rs, and the rotation by a quaternion of crs.rs and dodecahedron.rs. Definitions only.
-use Rattle.std.specs.Prelude.{ℕ, List, [], ◌∷◌, Float}
+use Rattle.std.specs.Prelude.{ℕ, List, [], ◌∷◌}
 use Rattle.std.specs.Float.{binary64}
 use Rattle.std.specs.Float.Ieee.{neg, of_bits}
 use Rattle.arithmetic.specs.Arith.{Arith}

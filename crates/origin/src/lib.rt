@@ -1,5 +1,6 @@
 // The twelve origins of the faces, rotations by quaternions, and the origin nearest to a point.
 #![tactic(auto)]
+
 pub mod origin;
 pub mod table;
 pub mod utils;
