@@ -1,5 +1,6 @@
 // Rotations by unit quaternions.
 #![tactic(auto)]
+
 ghost use Rattle.std.specs.Prelude.{◌≡◌};
 ghost use Rattle.arithmetic.specs.Arith.{ieee};
 ghost use Rattle.origin.specs.Quaternion.{quat_conjugate, transform_quat};
