@@ -1,5 +1,6 @@
 // Atan and atan2 (document 01, "Elementary steps").
 #![tactic(auto)]
+
 ghost use Rattle.std.specs.Prelude.{◌≡◌};
 ghost use Rattle.arithmetic.specs.Arith.{ieee};
 ghost use Rattle.arithmetic.specs.Sqrt.{sqrt};
