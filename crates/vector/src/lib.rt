@@ -1,5 +1,6 @@
 // Vectors in space.
 #![tactic(auto)]
+
 ghost use Rattle.std.specs.Prelude.{◌≡◌};
 ghost use Rattle.arithmetic.specs.Arith.{ieee};
 ghost use Rattle.coordinates.specs.Vector.{triple_product, length, subtract, vec3_distance, dot, cross, normalize, scale, scale_and_add};
