@@ -3,7 +3,7 @@
 
 ghost use Rattle.std.specs.Prelude.{◌≡◌, ◌≤◌, length};
 ghost use Rattle.answer.specs.Answer.{given_check};
-ghost use Rattle.turns.specs.Turns.{CALLS, CHANNELS, sum, capped, round, turns_given, grants_after};
+ghost use Rattle.turns.specs.Turns.{CALLS as the_calls, CHANNELS as the_channels, sum, capped, round, turns_given, grants_after};
 ghost use Rattle.turns.specs.Levels.{short_of, LastLevel};
 
 use answer::{Check, Refusal};
@@ -20,7 +20,7 @@ pub const SHARE: u16 = 16;
 
 // The calls handed out when each channel has the smaller of its wish and the level.
 fn handed_out(wishes: &[u16], level: u16) -> u16
-    requires { sum (capped level wishes.now) ≤ CALLS }
+    requires { sum (capped level wishes.now) ≤ the_calls }
     ensures { result ≡ sum (capped level wishes.now) }
 {
     let mut calls: u16 = 0;
@@ -34,7 +34,7 @@ fn handed_out(wishes: &[u16], level: u16) -> u16
 
 // How many channels wish for more than the level.
 fn short_of(wishes: &[u16], level: u16) -> u16
-    requires { length wishes.now ≡ CHANNELS }
+    requires { length wishes.now ≡ the_channels }
     ensures { result ≡ short_of level wishes.now }
 {
     let mut channels: u16 = 0;
@@ -49,7 +49,7 @@ fn short_of(wishes: &[u16], level: u16) -> u16
 // The level at which whole rounds end. As many rounds as what remains allows are taken at once, so
 // that each time a channel is no longer short or the last whole round is over.
 fn last_level(wishes: &[u16]) -> u16
-    requires { length wishes.now ≡ CHANNELS }
+    requires { length wishes.now ≡ the_channels }
     ensures { LastLevel wishes.now result }
 {
     let mut level = SHARE;

@@ -4,7 +4,7 @@ ghost use Rattle.std.specs.Prelude.{◌≡◌, false};
 ghost use Rattle.std.specs.Float.{binary64};
 ghost use Rattle.std.specs.Float.Ieee.{sub};
 ghost use Rattle.arithmetic.specs.Arith.{ieee};
-ghost use Rattle.elementary.specs.Constants.{FRAC_PI_2};
+ghost use Rattle.elementary.specs.Constants.{FRAC_PI_2 as the_frac_pi_2};
 ghost use Rattle.elementary.specs.Sine.{outside};
 ghost use Rattle.coordinates.specs.CoordinateTransforms.{deg_to_rad, rad_to_deg, from_lon_lat, normalize_longitude, to_lon_lat};
 
@@ -59,7 +59,7 @@ pub fn normalize_longitude(lon: Degrees) -> Degrees
 
 // The conversion without its checks.
 pub fn to_lon_lat(spherical: Spherical) -> LonLat
-    requires { outside (sub binary64 FRAC_PI_2 spherical.phi.0) ≡ false }
+    requires { outside (sub binary64 the_frac_pi_2 spherical.phi.0) ≡ false }
     ensures { result ≡ to_lon_lat ieee spherical }
 {
     let theta = spherical.theta;

@@ -1,6 +1,6 @@
 // The twelve origins of the built-in table.
 ghost use Rattle.std.specs.Prelude.{◌≡◌};
-ghost use Rattle.origin.specs.Origins.{ORIGINS, origin_at};
+ghost use Rattle.origin.specs.Origins.{ORIGINS as the_origins, origin_at};
 
 use crate::table::origin_in;
 use crate::utils::{Origin, Quat};
@@ -97,14 +97,14 @@ const TABLE: [f64; 84] = [
 
 // The built-in table.
 pub fn built_in() -> [f64; 84]
-    ensures { result ≡ ORIGINS }
+    ensures { result ≡ the_origins }
 {
     TABLE
 }
 
 // The origin with the number id; NaN in every place where there is none.
 pub fn get_origin(id: u8) -> Origin
-    ensures { result ≡ origin_at ORIGINS id }
+    ensures { result ≡ origin_at the_origins id }
 {
     if id > 11 {
         let nan = 0.0 / 0.0;

@@ -1,6 +1,6 @@
 // Open on buffers of any length, and the rows of a buffer that it has written.
 ghost use Rattle.std.specs.Prelude.{◌+◌, ◌≤◌};
-ghost use Rattle.set.specs.Sizes.{FRAME, FACE_STORE, SPHERE_STORE};
+ghost use Rattle.set.specs.Sizes.{FRAME as the_frame, FACE_STORE as the_face_store, SPHERE_STORE as the_sphere_store};
 
 use crate::tables::NO_SUCH_PLACE;
 use open_calls::open;
@@ -57,7 +57,7 @@ fn effect_on(
 
 // Open on the first numbers of three foreign buffers, a, b and c many. What lies behind is looked at too.
 fn opening(a: usize, b: usize, c: usize) -> Effect
-    requires { (a ≤ FRAME + 1) × (b ≤ FACE_STORE + 1) × (c ≤ SPHERE_STORE + 1) }
+    requires { (a ≤ the_frame + 1) × (b ≤ the_face_store + 1) × (c ≤ the_sphere_store + 1) }
 {
     let mut frame = [FOREIGN; FRAME_ROOM];
     let mut face = [FOREIGN; FACE_ROOM];

@@ -8,7 +8,7 @@ ghost use Rattle.std.specs.Float.Ieee.{mul, rem, lt};
 ghost use Rattle.answer.specs.Number.{is_finite};
 ghost use Rattle.arithmetic.specs.Arith.{ieee};
 ghost use Rattle.float_parts.specs.Signs.{abs};
-ghost use Rattle.elementary.specs.Constants.{TAU, FRAC_2_PI};
+ghost use Rattle.elementary.specs.Constants.{TAU as the_tau, FRAC_2_PI as the_frac_2_pi};
 ghost use Rattle.elementary.specs.Whole.{roundℤ};
 ghost use Rattle.elementary.specs.Sine.{outside, modulo4, whole_float, sin_cos_reduced, sin_cos, sin, cos, tan};
 
@@ -26,8 +26,8 @@ const PI_2_REST: f64 = 6.123233995736766e-17;
 // x mod one turn. A value within a turn is its own, which spares the call.
 fn within_turn(x: f64) -> f64
     requires { is_finite x ≡ true }
-    ensures left { result ≡ rem binary64 x TAU }
-    ensures within { lt (abs result) TAU ≡ true }
+    ensures left { result ≡ rem binary64 x the_tau }
+    ensures within { lt (abs result) the_tau ≡ true }
 {
     if float_parts::signs::abs(x) < TAU {
         x
@@ -53,9 +53,9 @@ struct Nearest {
 
 // n's sign comes by 0.0 - w, not -w: a whole number has no -0.
 fn quarters(y: f64) -> Nearest
-    requires { lt (abs y) TAU ≡ true }
-    ensures n_is { result.n ≡ whole_float ieee (roundℤ (mul binary64 y FRAC_2_PI)) }
-    ensures quarter_is { result.quarter ≡ modulo4 (roundℤ (mul binary64 y FRAC_2_PI)) }
+    requires { lt (abs y) the_tau ≡ true }
+    ensures n_is { result.n ≡ whole_float ieee (roundℤ (mul binary64 y the_frac_2_pi)) }
+    ensures quarter_is { result.quarter ≡ modulo4 (roundℤ (mul binary64 y the_frac_2_pi)) }
 {
     let q = y * FRAC_2_PI;
     let k = elementary::whole::nearest_size(size(q));
@@ -83,7 +83,7 @@ struct Angle {
 // Of an angle within a turn. The turns are taken off by each caller and not in here, since this is
 // to be small enough for the compiler to put it into the callers: a call costs 2 ns.
 fn to_quarter(y: f64) -> Angle
-    requires { lt (abs y) TAU ≡ true }
+    requires { lt (abs y) the_tau ≡ true }
     ensures { sin_cos_reduced ieee result.quarter result.r ≡ sin_cos ieee y }
 {
     let t = quarters(y);

@@ -3,7 +3,7 @@
 ghost use Rattle.std.specs.Prelude.{◌≡◌, ◌∷◌, ◌+◌, ◌<◌, ◌≤◌, length};
 ghost use Rattle.arithmetic.specs.Numbers.{1·0};
 ghost use Rattle.arithmetic.specs.Arith.{ieee};
-ghost use Rattle.set.specs.Sizes.{FACE_SLOTS, FACE_STORE, FACE_WIDTH, SPHERE_SLOTS, SPHERE_STORE, SPHERE_WIDTH};
+ghost use Rattle.set.specs.Sizes.{FACE_SLOTS, FACE_STORE, FACE_WIDTH as the_face_width, SPHERE_SLOTS, SPHERE_STORE, SPHERE_WIDTH as the_sphere_width};
 ghost use Rattle.stores.specs.Slots.{put, slot_written, face_run, sphere_run};
 ghost use Rattle.stores.specs.Used.{face_written};
 
@@ -45,7 +45,7 @@ fn write_sphere(run: &mut [f64], t: SphericalTriangle, bxc: Cartesian)
 
 // A slot whole: its mark, and its run lent on to the writer.
 fn store_face(store: &mut [f64], at: usize, t: FaceTriangle)
-    requires { at + FACE_WIDTH ≤ length store.old }
+    requires { at + the_face_width ≤ length store.old }
     ensures { store.new ≡ put store.old at (1·0 ∷ face_run t) }
 {
     store[at] = 1.0;
@@ -53,7 +53,7 @@ fn store_face(store: &mut [f64], at: usize, t: FaceTriangle)
 }
 
 fn store_sphere(store: &mut [f64], at: usize, t: SphericalTriangle, bxc: Cartesian)
-    requires { at + SPHERE_WIDTH ≤ length store.old }
+    requires { at + the_sphere_width ≤ length store.old }
     ensures { store.new ≡ put store.old at (1·0 ∷ sphere_run t bxc) }
 {
     store[at] = 1.0;
@@ -75,7 +75,7 @@ pub fn write_face_slot(store: &mut [f64], slot: usize)
 // An empty slot gets the triangle t with b × c, and a filled one stays.
 pub fn write_sphere_slot(store: &mut [f64], slot: usize, t: SphericalTriangle, bxc: Cartesian)
     requires { (slot < SPHERE_SLOTS) × (length store.old ≡ SPHERE_STORE) }
-    ensures { store.new ≡ slot_written SPHERE_WIDTH store.old slot (sphere_run t bxc) }
+    ensures { store.new ≡ slot_written the_sphere_width store.old slot (sphere_run t bxc) }
 {
     let at = slot * SPHERE_WIDTH;
     if is_filled(store, at) {

@@ -1,7 +1,7 @@
 // The lines of answers and refusals. Each function writes from a place on, and returns the place
 // behind what it wrote.
 ghost use Rattle.std.specs.Prelude.{◌≡◌, [], ◌∷◌, ◌+◌, ◌≤◌, ◌<◌, length};
-ghost use Rattle.strike_records.specs.Line.{SPACE, LINE, digit as Line·digit, hex, decimal, bits_of, fields, place_line, lon_lat_line, refusal_line};
+ghost use Rattle.strike_records.specs.Line.{SPACE, LINE as the_line, digit as Line·digit, hex, decimal, bits_of, fields, place_line, lon_lat_line, refusal_line};
 ghost use Rattle.strike_records.specs.Writes.{Writes, lent_bytes};
 
 use answer::bits;
@@ -77,7 +77,7 @@ fn write_pair(out: &mut [u8], at: usize, x: f64, y: f64) -> usize
 
 // Place's answer: P, the origin's id, x and y.
 pub fn write_place(out: &mut [u8], at: usize, place: Place) -> usize
-    requires { at + LINE ≤ length out.old }
+    requires { at + the_line ≤ length out.old }
     ensures { Writes (lent_bytes out) at (place_line place) result }
 {
     out[at] = b'P';
@@ -87,7 +87,7 @@ pub fn write_place(out: &mut [u8], at: usize, place: Place) -> usize
 
 // Unplace's answer: U, longitude and latitude.
 pub fn write_lon_lat(out: &mut [u8], at: usize, lonlat: LonLat) -> usize
-    requires { at + LINE ≤ length out.old }
+    requires { at + the_line ≤ length out.old }
     ensures { Writes (lent_bytes out) at (lon_lat_line lonlat) result }
 {
     out[at] = b'U';
@@ -96,7 +96,7 @@ pub fn write_lon_lat(out: &mut [u8], at: usize, lonlat: LonLat) -> usize
 
 // A refusal: R and its number.
 pub fn write_refusal(out: &mut [u8], at: usize, number: u8) -> usize
-    requires { at + LINE ≤ length out.old }
+    requires { at + the_line ≤ length out.old }
     ensures { Writes (lent_bytes out) at (refusal_line number) result }
 {
     out[at] = b'R';

@@ -2,7 +2,7 @@
 #![tactic(auto)]
 ghost use Rattle.std.specs.Prelude.{◌≡◌, ◌++◌, ◌≤◌, length, drop};
 ghost use Rattle.arithmetic.specs.Arith.{ieee};
-ghost use Rattle.table_file.specs.TableFile.{SIZE, HEADER, headed, table_in, file_of, table_given, file_given, Gives};
+ghost use Rattle.table_file.specs.TableFile.{SIZE as the_size, HEADER, headed, table_in, file_of, table_given, file_given, Gives};
 
 use answer::{Check, Refusal};
 use origin::table::check_rows;
@@ -23,7 +23,7 @@ fn is_headed(bytes: &[u8]) -> bool
 
 // The 84 numbers behind the header.
 fn numbers(bytes: &[u8]) -> [f64; 84]
-    requires { length bytes.now ≡ SIZE }
+    requires { length bytes.now ≡ the_size }
     ensures { result ≡ table_in bytes.now }
 {
     let mut table = [0.0; 84];
@@ -54,7 +54,7 @@ pub fn load(bytes: &[u8], table: &mut [f64; 84]) -> Check
 
 // The header's bytes.
 fn write_header(bytes: &mut [u8])
-    requires { length bytes.old ≡ SIZE }
+    requires { length bytes.old ≡ the_size }
     ensures { bytes.new ≡ HEADER ++ drop 5 bytes.old }
 {
     bytes[0] = b'E';
@@ -66,7 +66,7 @@ fn write_header(bytes: &mut [u8])
 
 // The whole file.
 fn write(table: &[f64; 84], bytes: &mut [u8])
-    requires { (length table.now ≡ 84) × (length bytes.old ≡ SIZE) }
+    requires { (length table.now ≡ 84) × (length bytes.old ≡ the_size) }
     ensures { bytes.new ≡ file_of table.now }
 {
     write_header(bytes);

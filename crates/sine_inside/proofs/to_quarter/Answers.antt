@@ -1,0 +1,10 @@
+-- `to_quarter` meets its contract: the angle that is left is document 01's r. Assumes nothing.
+use Rattle.elementary.specs.Sine.{reduced}
+use Rattle.elementary.proofs.Quarters.{reduced_pair}
+use Rattle.sine_inside.proofs.to_quarter.Goals as goal
+
+pub returns : goal.returns
+unfolding reduced
+returns c =
+    let t = c.quarters-t in
+    reduced_pair c.args.y (rw c.well_formed.0.1 tt) c.requires t.result.n t.result.quarter t.ensures.0 t.ensures.1
