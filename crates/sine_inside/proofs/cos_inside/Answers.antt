@@ -25,5 +25,5 @@ finite c = sym c.is_finite.ensures ∙ not-false _ c.if-not-is_finite.false-raw
 pub returns : goal.returns
 unfolding cos
 returns c =
-    let same = by_turns c.args.x c.within_turn.result (rw c.well_formed.0.1 tt) (finite c.before.before.before) c.within_turn.ensures.0 in
+    let same = by_turns c.args.x c.within_turn.result (rw c.well_formed.0.1 tt) (finite c.before.before.before) c.within_turn.ensures.left in
     c.cos_at.ensures ∙ ap (λ (p : SinCos). p.cos) (c.to_quarter-t.ensures ∙ same)

@@ -60,11 +60,11 @@ unfolding count FRAC_2_PI
 returns-then-q c =
     let k = c.nearest_size-k.result in
     let z : roundℤ (q c.before.before) ≡ neg_ℤ (pos k) = nearest_is (q c.before.before) true c.if-q.true ∙ ap (λ j. neg_ℤ (pos j)) (nearest c.before.before) in
-    (minus_float k (nearest_le c.before.before) ∙ ap (whole_float ieee) (sym z), minus_quarter k ∙ ap modulo4 (sym z))
+    record { n_is = minus_float k (nearest_le c.before.before) ∙ ap (whole_float ieee) (sym z); quarter_is = minus_quarter k ∙ ap modulo4 (sym z) }
 
 pub returns-else-q : goal.returns-else-q
 unfolding count FRAC_2_PI
 returns-else-q c =
     let k = c.nearest_size-k.result in
     let z : roundℤ (q c.before.before) ≡ pos k = nearest_is (q c.before.before) false c.if-q.false ∙ ap pos (nearest c.before.before) in
-    (plus_float k ∙ ap (whole_float ieee) (sym z), plus_quarter k ∙ ap modulo4 (sym z))
+    record { n_is = plus_float k ∙ ap (whole_float ieee) (sym z); quarter_is = plus_quarter k ∙ ap modulo4 (sym z) }

@@ -21,5 +21,5 @@ finite c = sym c.is_finite.ensures ∙ not-false _ c.if-not-is_finite.false-raw
 
 pub returns : goal.returns
 returns c =
-    let same = by_turns c.args.x c.within_turn.result (rw c.well_formed.0.1 tt) (finite c.before.before.before) c.within_turn.ensures.0 in
+    let same = by_turns c.args.x c.within_turn.result (rw c.well_formed.0.1 tt) (finite c.before.before.before) c.within_turn.ensures.left in
     c.sin_cos_at.ensures ∙ c.to_quarter-t.ensures ∙ same

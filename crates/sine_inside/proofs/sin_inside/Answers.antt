@@ -25,5 +25,5 @@ finite c = sym c.is_finite.ensures ∙ not-false _ c.if-not-is_finite.false-raw
 pub returns : goal.returns
 unfolding sin
 returns c =
-    let same = by_turns c.args.x c.within_turn.result (rw c.well_formed.0.1 tt) (finite c.before.before.before) c.within_turn.ensures.0 in
+    let same = by_turns c.args.x c.within_turn.result (rw c.well_formed.0.1 tt) (finite c.before.before.before) c.within_turn.ensures.left in
     c.sin_at.ensures ∙ ap (λ (p : SinCos). p.sin) (c.to_quarter-t.ensures ∙ same)

@@ -7,4 +7,4 @@ pub returns : goal.returns
 unfolding reduced
 returns c =
     let t = c.quarters-t in
-    reduced_pair c.args.y (rw c.well_formed.0.1 tt) c.requires t.result.n t.result.quarter t.ensures.0 t.ensures.1
+    reduced_pair c.args.y (rw c.well_formed.0.1 tt) c.requires t.result.n t.result.quarter t.ensures.n_is t.ensures.quarter_is

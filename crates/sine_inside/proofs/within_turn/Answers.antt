@@ -21,10 +21,10 @@ pub returns-then-abs : goal.returns-then-abs
 unfolding TAU
 returns-then-abs c =
     let within : lt (abs c.args.x) TAU ≡ true = ap (λ a. lt a TAU) (sym c.abs.ensures) ∙ c.if-abs.true in
-    (within_own c.args.x (held c.before.before) within, within)
+    record { left = within_own c.args.x (held c.before.before) within; within = within }
 
 pub returns-else-abs : goal.returns-else-abs
 unfolding TAU
 returns-else-abs c =
     let left = c.remainder.ensures in
-    (left, ap (λ y. lt (abs y) TAU) left ∙ left_within c.args.x (held c.before.before.before) c.requires)
+    record { left = left; within = ap (λ y. lt (abs y) TAU) left ∙ left_within c.args.x (held c.before.before.before) c.requires }
