@@ -8,7 +8,7 @@ use coordinates::base::Radians;
 use coordinates::spherical::Spherical;
 
 // A row an origin, in final order: axis theta, axis phi, quaternion x, y, z, w, angle.
-const TABLE: [f64; 84] = [
+const ORIGINS: [f64; 84] = [
     0.0,
     0.0,
     0.0,
@@ -99,7 +99,7 @@ const TABLE: [f64; 84] = [
 pub fn built_in() -> [f64; 84]
     ensures { result ≡ the_origins }
 {
-    TABLE
+    ORIGINS
 }
 
 // The origin with the number id; NaN in every place where there is none.
