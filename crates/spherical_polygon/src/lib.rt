@@ -1,5 +1,6 @@
 // The area of a spherical triangle (spherical_polygon.rs of the Rust).
 #![tactic(auto)]
+
 ghost use Rattle.std.specs.Prelude.{◌≡◌, true};
 ghost use Rattle.std.specs.Float.{binary64};
 ghost use Rattle.std.specs.Float.Ieee.{of_bits};

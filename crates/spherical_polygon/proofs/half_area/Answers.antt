@@ -1,11 +1,10 @@
 -- `half_area` meets its contract: the angle that the code knows is computed. Assumes nothing.
-use mathlib.Core.Path.{◌≡◌, refl, sym, ap, ◌∙◌}
-use lib.Ieee.{Float, binary64, of_bits}
+use mathlib.Core.Path.{◌≡◌, refl, sym, ◌∙◌}
+use lib.Ieee.{binary64, of_bits}
 use Rattle.arithmetic.specs.Arith.{Arith, ieee}
 use Rattle.arithmetic.proofs.Quick.{quick, in_ieee}
 use Rattle.elementary.specs.Arctangent.{atan2}
-use Rattle.spherical_polygon.proofs.half_area.Statement.{statement}
-use Rattle.spherical_polygon.proofs.half_area.Tie as tie
+use Rattle.spherical_polygon.proofs.half_area.Goals as goal
 
 -- 0.18759247408508, 3.5794776396065218 and 0.05235987755982991
 abbrev Known : Arith → Type 0
@@ -15,9 +14,6 @@ known : Known ieee
 unfolding atan2 of_bits quick
 known = in_ieee Known refl
 
-returns : tie.Need-returns
+pub returns-then-has_bits-2 : goal.returns-then-has_bits-2
 unfolding of_bits
-returns c = known ∙ sym (rw (c.before.before.before.has-bits.ensures c.before.before.if1.true, c.before.has-bits2.ensures c.if2.true))
-
-pub half_area_spec : {M : Type 1} → statement M
-half_area_spec = tie.close (tie.spec (λ c κs. tt) (λ c κs. tt) returns (λ c κs. tt) (λ c. c.atan2.ensures))
+returns-then-has_bits-2 c = known ∙ sym (rw (c.has_bits.ensures c.if-has_bits.true, c.has_bits-then-has_bits.ensures c.if-has_bits-2.true))
