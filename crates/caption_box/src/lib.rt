@@ -1,6 +1,7 @@
 // The caption box (document 02, Paper 3): the smallest upright rectangle round the face points taken
 // in so far. The work is done on boxes by value; `take_in`, which is lent a box, is thin.
 #![tactic(auto)]
+
 ghost use Rattle.std.specs.Prelude.{◌≡◌};
 ghost use Rattle.answer.specs.Answer.{given_check};
 ghost use Rattle.caption_box.specs.Sides.{new_box, replaced, below, above, grown, TakesIn};
