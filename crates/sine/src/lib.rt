@@ -2,6 +2,7 @@
 // arguments beyond ±64 (Paper 7); where an argument is proved not to be outside, those of crate
 // `sine_inside` give the value alone.
 #![tactic(auto)]
+
 ghost use Rattle.std.specs.Prelude.{◌≡◌};
 ghost use Rattle.arithmetic.specs.Arith.{ieee};
 ghost use Rattle.elementary.specs.Sine.{outside, given_sine, given_sin_cos, sin_given, cos_given, sin_cos_given, tan_given};
