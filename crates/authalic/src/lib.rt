@@ -1,5 +1,6 @@
 // Geodetic latitude to authalic, on the sphere of equal area, and back.
 #![tactic(auto)]
+
 ghost use Rattle.std.specs.Prelude.{◌≡◌, false};
 ghost use Rattle.arithmetic.specs.Arith.{ieee};
 ghost use Rattle.elementary.specs.Sine.{outside};
