@@ -1,6 +1,7 @@
 // The caption box as C functions. The box is lent by a pointer to the struct that bindings/a5.h has
 // as a5_box.
 #![tactic(auto)]
+
 ghost use Rattle.std.specs.Prelude.{◌≡◌};
 ghost use Rattle.caption_box.specs.Sides.{new_box};
 ghost use Rattle.coordinates.specs.CoordinateTransforms.{face};
