@@ -1,16 +1,16 @@
 -- What is saved is loaded again, and what is loaded is saved again. Assumes nothing.
-use mathlib.Core.Path.{◌≡◌, refl, sym, ap, ◌∙◌, subst}
+use mathlib.Core.Path.{◌≡◌, refl, sym, ap, ◌∙◌}
 use mathlib.Core.Bool.{Bool, true, false, not, ◌&&◌}
 use mathlib.Core.List.{List, [], ◌∷◌, ◌++◌}
-use Prim.Native.Nat.{ℕ, zero, suc, ◌+◌, ◌*◌, ◌≤◌, ◌<◌}
+use Prim.Native.Nat.{ℕ, zero, suc, ◌*◌, ◌<◌}
 use native.Mathlib.Omega.{arith}
-use lib.Dec.{T, eqb, eqb→eq}
+use lib.Dec.{eqb, eqb→eq}
 use lib.ListN.{length, get_or, take, drop, length-append, length-take, length-drop, take-append-drop}
 use lib.Seq.{take_at, drop_at, drop-cons}
-use lib.Ieee.{Float, nan, inf, fin, binary64, fits, is_nan}
+use lib.Ieee.{Float, nan, inf, fin, is_nan}
 use lib.Ieee.Bits.{is_true}
 use lib.Ieee.Fits.{and_l, and_r, eq→eqb}
-use Rattle.answer.specs.Given.{Given, answered, refused, passed}
+use Rattle.answer.specs.Given.{answered}
 use Rattle.answer.specs.Number.{is_finite}
 use Rattle.answer.proofs.Given.{refuse_answered, then_answered}
 use Rattle.arithmetic.specs.Arith.{ieee}

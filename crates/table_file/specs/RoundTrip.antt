@@ -1,5 +1,5 @@
 -- What is saved is loaded again, and what is loaded is saved again: the same 84 numbers, bit for bit, and the same 677 bytes. Definitions only.
-use Rattle.std.specs.Prelude.{ℕ, ◌<◌, ◌≡◌, List, [], ◌∷◌, T, length, get_or, Float}
+use Rattle.std.specs.Prelude.{ℕ, ◌<◌, ◌≡◌, List, T, length, get_or, Float}
 use Rattle.std.specs.Float.{nan, binary64}
 use Rattle.std.specs.Float.Ieee.{fits}
 use Rattle.answer.specs.Given.{answered}

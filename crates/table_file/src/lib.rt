@@ -1,5 +1,6 @@
 // The table file: the mark EAT, version 1, and the 84 numbers of a table of twelve origins.
 #![tactic(auto)]
+
 ghost use Rattle.std.specs.Prelude.{◌≡◌, ◌++◌, ◌≤◌, length, drop};
 ghost use Rattle.arithmetic.specs.Arith.{ieee};
 ghost use Rattle.table_file.specs.TableFile.{SIZE as the_size, HEADER, headed, table_in, file_of, table_given, file_given, Gives};
