@@ -1,7 +1,6 @@
 -- A haversine put together from the parts that the code shares: the squared half sines of both differences, the sine of the point's phi,
 -- and that of the axis's. Assumes nothing.
 use mathlib.Core.Path.{◌≡◌, sym}
-use Prim.Native.Nat.{ℕ}
 use lib.Ieee.{Float, binary64, add, sub, mul, div}
 use Rattle.arithmetic.specs.Arith.{ieee}
 use Rattle.elementary.specs.Sine.{sin}

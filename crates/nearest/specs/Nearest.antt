@@ -1,5 +1,5 @@
 -- core/origin.rs: haversine and find_nearest_origin; document 01: "Nearest is the lowest-numbered origin with the least computed haversine." Definitions only.
-use Rattle.std.specs.Prelude.{ℕ, zero, suc, true, false, List, [], ◌∷◌, map, Float}
+use Rattle.std.specs.Prelude.{ℕ, suc, true, false, List, [], ◌∷◌, map, Float}
 use Rattle.std.specs.Float.{inf}
 use Rattle.std.specs.Float.Ieee.{lt}
 use Rattle.arithmetic.specs.Arith.{Arith}

@@ -1,6 +1,7 @@
 // The origin nearest to a point: of the built-in table, or of another. The calls, with their checks,
 // are crate `nearest_calls`.
 #![tactic(auto)]
+
 ghost use Rattle.std.specs.Prelude.{◌≡◌, true, false, length};
 ghost use Rattle.std.specs.Float.{binary64};
 ghost use Rattle.std.specs.Float.Ieee.{mul, div};
