@@ -1,5 +1,6 @@
 // Sine and remainder as C functions, for the benchmark alone: bindings/library has the crates of the library's own calls.
 #![tactic(auto)]
+
 ghost use Rattle.std.specs.Prelude.{◌≡◌};
 ghost use Rattle.std.specs.Float.{binary64};
 ghost use Rattle.std.specs.Float.Ieee.{rem};
