@@ -1,5 +1,6 @@
 // Degrees and radians, and longitude and latitude to spherical angles and back, with the Rust's order of operations.
 #![tactic(auto)]
+
 ghost use Rattle.std.specs.Prelude.{◌≡◌, false};
 ghost use Rattle.std.specs.Float.{binary64};
 ghost use Rattle.std.specs.Float.Ieee.{sub};

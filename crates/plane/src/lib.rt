@@ -1,5 +1,6 @@
 // Changes of coordinates in the plane of a face, polar and barycentric, with the Rust's order of operations.
 #![tactic(auto)]
+
 ghost use Rattle.std.specs.Prelude.{◌≡◌, false};
 ghost use Rattle.arithmetic.specs.Arith.{ieee};
 ghost use Rattle.elementary.specs.Sine.{outside};
