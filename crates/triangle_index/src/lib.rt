@@ -1,5 +1,6 @@
 // The triangle that a point belongs to, and whether it lies beyond the face's edge.
 #![tactic(auto)]
+
 ghost use Rattle.std.specs.Prelude.{◌≡◌};
 ghost use Rattle.arithmetic.specs.Arith.{ieee};
 ghost use Rattle.elementary.specs.Whole.{signed};

@@ -8,18 +8,14 @@ use Rattle.origin.specs.Constants.{PI_OVER_5}
 use Rattle.tiling.specs.Index.{modulo10, triangle_index}
 use Rattle.tiling.specs.Cut.{as_whole}
 use Rattle.tiling.proofs.Modulo.{ten_more, floor_cut}
-use Rattle.triangle_index.proofs.get_face_triangle_index.Statement.{statement}
-use Rattle.triangle_index.proofs.get_face_triangle_index.Tie as tie
+use Rattle.triangle_index.proofs.get_face_triangle_index.Goals as goal
 
-returns : tie.Need-returns
+pub returns : goal.returns
 unfolding triangle_index PI_OVER_5 of_bits
 returns c =
-    let gamma = c.before.before.before.args.polar.gamma.0 in
+    let gamma = c.args.polar.gamma.0 in
     let quotient = div binary64 gamma PI_OVER_5 in
-    c.whole-modulo.ensures
-    ∙ ap (λ n. modulo10 (as_whole n)) c.before.floor.ensures
+    c.whole_modulo.ensures
+    ∙ ap (λ n. modulo10 (as_whole n)) c.floor-whole.ensures
     ∙ ap modulo10 (floor_cut quotient (div-fits binary64 gamma PI_OVER_5))
     ∙ sym (ten_more (floorℤ quotient))
-
-pub get_face_triangle_index_spec : {M : Type 1} → statement M
-get_face_triangle_index_spec = tie.close (tie.spec (λ c κs. tt) (λ c κs. tt) returns)

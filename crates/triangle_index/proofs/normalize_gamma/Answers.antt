@@ -1,0 +1,8 @@
+-- `index::normalize_gamma` meets its contract. Assumes nothing.
+use lib.Ieee.{of_bits}
+use Rattle.tiling.specs.Index.{normalize_gamma}
+use Rattle.triangle_index.proofs.normalize_gamma.Goals as goal
+
+pub returns : goal.returns
+unfolding normalize_gamma of_bits
+returns c = rw c.round-center.ensures
