@@ -1,4 +1,2 @@
--- What the walks of this crate share.
-pub mod Arrays
+-- What the proofs of this crate share.
 pub mod Copied
-pub mod Counted

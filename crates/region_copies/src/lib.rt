@@ -1,6 +1,7 @@
 // The positions of a region copied out of the slice that is lent, and its points copied into the slice that is lent (document 02,
 // Paper 4). Crate region has the call.
 #![tactic(auto)]
+
 ghost use Rattle.std.specs.Prelude.{min, ◌≡◌};
 ghost use Rattle.region_copies.specs.Copies.{CopiedIn, written_out};
 
