@@ -1,5 +1,6 @@
 // A record's arguments as the values of crate coordinates, from a place on, in the order of their fields.
 #![tactic(auto)]
+
 ghost use Rattle.std.specs.Prelude.{◌<◌};
 
 use coordinates::base::{Degrees, Radians};
