@@ -1,6 +1,7 @@
 // The equal-area map from the sphere to the face, and the constants of the canonical triangle
 // (equal_area.rs of the Rust).
 #![tactic(auto)]
+
 ghost use Rattle.std.specs.Prelude.{◌≡◌};
 ghost use Rattle.arithmetic.specs.Arith.{ieee};
 ghost use Rattle.equal_area.specs.EqualArea.{compute_constants, one_over, forward};
