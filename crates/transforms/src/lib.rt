@@ -1,6 +1,7 @@
 // The changes between the sphere, space and the plane of a face, with the Rust's module names, and the two conversions between
 // longitude/latitude and the sphere as calls.
 #![tactic(auto)]
+
 pub mod conversions;
 pub mod coordinate_transforms;
 pub mod gnomonic;
