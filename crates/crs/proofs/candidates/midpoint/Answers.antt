@@ -1,0 +1,20 @@
+-- `candidates::midpoint` meets its contract. Assumes nothing.
+use mathlib.Core.Path.{refl}
+use Prim.Native.Nat.{◌/◌}
+use native.Mathlib.Omega.{arith}
+use lib.Ieee.{of_bits}
+use Rattle.elementary.specs.Sine.{beyond}
+use Rattle.origin.proofs.Sizes.{sound_small, small_angle}
+use Rattle.crs.specs.Candidates.{midpoint}
+use Rattle.crs.proofs.Angles.{angles}
+use Rattle.crs.proofs.candidates.midpoint.Goals as goal
+
+pub returns : goal.returns
+unfolding midpoint
+returns c = rw (c.around.ensures, c.origin_in.ensures, angles.midpoint)
+
+pub around-requires : goal.around-requires
+unfolding beyond of_bits
+around-requires c =
+    let o = sound_small c.args.table.now c.requires.0 (c.args.k / 5) (omega arith) in
+    (omega arith, rw c.origin_in.ensures (small_angle _ o), refl)
