@@ -1,8 +1,8 @@
 -- Paper 13's claims, for every twelve counts, and for a window after every list of additions. Assumes nothing.
 use mathlib.Core.Path.{◌≡◌, refl, sym, ap, ◌∙◌}
 use mathlib.Core.Bool.{Bool, true, false, cond}
-use mathlib.Core.List.{List, [], ◌∷◌, ◌++◌}
-use Prim.Native.Nat.{ℕ, zero, suc, ◌+◌, ◌*◌, ◌%◌, ◌^◌, ◌≤◌, ◌<◌}
+use mathlib.Core.List.{List, [], ◌∷◌}
+use Prim.Native.Nat.{ℕ, suc, ◌+◌, ◌%◌, ◌^◌, ◌≤◌, ◌<◌}
 use native.Mathlib.Omega.{arith}
 use native.Mathlib.Nat.{mod-eq_of_lt}
 use borrow.Author.Tests.{eq-eqb}
@@ -11,15 +11,14 @@ use lib.ListN.{length, get_or, take, drop}
 use lib.Seq.{take_all}
 use Rattle.answer.specs.Given.{Given, passed}
 use Rattle.decimal.specs.Decimal.{decimal, number_in}
-use Rattle.window.specs.Window.{MOST, empty_window}
+use Rattle.window.specs.Window.{empty_window}
 use Rattle.window.specs.Kept.{Strike, kept, accepted, count}
-use Rattle.window.specs.EveryList.{sum, after, Holds}
-use Rattle.window.specs.declared.Window.{Window}
+use Rattle.window.specs.EveryList.{sum, after}
 use Rattle.window.proofs.Theorem.{every_list}
-use Rattle.sheet_lines.specs.Page.{TITLE, ALL, SPACE, NEWLINE, line, right_aligned, numbered, row, blank, lines_of, page_of}
+use Rattle.sheet_lines.specs.Page.{TITLE, ALL, line, right_aligned, numbered, lines_of, page_of}
 use Rattle.sheet.specs.Sheet.{PAGE, sheet_given, page_after, SheetOf}
 use Rattle.answer.specs.declared.Check.{Check}
-use Rattle.sheet.specs.Claims.{columns_at, LaidOut, ReadsBack, EveryPage, SamePage, SameCounts, PrintsKept, EverySheet}
+use Rattle.sheet.specs.Claims.{columns_at, LaidOut, ReadsBack, EveryPage, SamePage, SameCounts, EverySheet}
 use Rattle.sheet_columns.proofs.Number.{length_aligned, reads_aligned}
 use Rattle.sheet_lines.proofs.Lines.{each_line, row_at, first_long, all_lines}
 use Rattle.sheet.proofs.Columns.{Columns, line_columns, numbered_columns, number_prints, newline_of, column_of, number_of, left_of, byte_in, columns_in}

@@ -1,7 +1,6 @@
 -- `write_double` meets its contract. The loop's invariant: the first k of the double's bytes are stored. The measure: how many are left.
 -- Assumes nothing.
 use mathlib.Core.Path.{◌≡◌}
-use mathlib.Core.List.{[]}
 use Prim.Native.Nat.{◌-◌, ◌≤◌}
 use lib.ListN.{take}
 use lib.Seq.{sets}

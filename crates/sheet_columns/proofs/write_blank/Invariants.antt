@@ -1,7 +1,6 @@
 -- `write_blank` meets its contract. The loop's invariant: the first i columns are spaces; its measure: how many columns are left.
 -- Assumes nothing.
 use mathlib.Core.Path.{◌≡◌}
-use mathlib.Core.List.{[]}
 use Prim.Native.Nat.{◌-◌, ◌≤◌}
 use lib.ListN.{length, take}
 use Rattle.sheet_columns.specs.Line.{spaces}

@@ -1,7 +1,7 @@
 -- `write_number` meets its contract. The loop's invariant: the columns of what is left of the number, with those that stand behind them, are all
 -- of its columns; its measure: how many columns are left. Assumes nothing.
 use mathlib.Core.Path.{◌≡◌}
-use mathlib.Core.List.{[], ◌++◌}
+use mathlib.Core.List.{◌++◌}
 use Prim.Native.Nat.{◌≤◌}
 use lib.ListN.{length, drop}
 use Rattle.decimal.specs.Decimal.{decimal}

@@ -1,7 +1,6 @@
 -- `sheet::total` meets its contract. The loop's invariant: `all` is the sum of the first k counts, and fits; its measure: how many counts are
 -- left. Assumes nothing.
 use mathlib.Core.Path.{◌≡◌}
-use mathlib.Core.List.{[]}
 use Prim.Native.Nat.{◌*◌, ◌-◌, ◌≤◌}
 use lib.ListN.{take}
 use Rattle.window.specs.EveryList.{sum}
