@@ -67,8 +67,8 @@ module _ (A : Arith) where
       let p₀ = scale_and_add A (scale A v k.volume_abc) t.a (neg (dot A v bxc)) in
       let d = length A p₀ in
       let p = scale A p₀ (one_over d) in
-      let areaAbp = max_zero (spherical_triangle_area A t.a t.b p).0 in
-      let alpha = areaAbp ⊘ k.area_abc in
+      let area_abp = max_zero (spherical_triangle_area A t.a t.b p).0 in
+      let alpha = area_abp ⊘ k.area_abc in
       let rho = (d ⊘ k.volume_abc) ⊗ root ((1·0 ⊕ dot A t.a p) ⊘ (1·0 ⊕ dot A t.a v)) in
       barycentric_to_face A (record { u = 1·0 ⊖ rho; v = rho ⊗ (1·0 ⊖ alpha); w = rho ⊗ alpha }) face
 
@@ -88,18 +88,18 @@ module _ (A : Arith) where
   unfoldable pub point_p : TriangleConstants → Cartesian → Cartesian → SinCos → Cartesian
   point_p k b c s =
       let m = k.alpha_transform in
-      let weightB = m.c1c ⊗ s.cos ⊕ m.c1s ⊗ s.sin ⊕ m.c1o in
-      let weightC = m.c2c ⊗ s.cos ⊕ m.c2s ⊗ s.sin ⊕ m.c2o in
-      normalize A (scale_and_add A (scale A b weightB) c weightC)
+      let weight_b = m.c1c ⊗ s.cos ⊕ m.c1s ⊗ s.sin ⊕ m.c1o in
+      let weight_c = m.c2c ⊗ s.cos ⊕ m.c2s ⊗ s.sin ⊕ m.c2o in
+      normalize A (scale_and_add A (scale A b weight_b) c weight_c)
 
   -- the point between A and P
   unfoldable pub between : Cartesian → Cartesian → Float → Cartesian
   between a p rho =
       let s = dot A a p in
       let t = 1·0 ⊕ rho ⊗ rho ⊗ (s ⊖ 1·0) in
-      let weightP = rho ⊗ root ((1·0 ⊕ t) ⊘ (1·0 ⊕ s)) in
-      let weightA = t ⊖ s ⊗ weightP in
-      scale_and_add A (scale A a weightA) p weightP
+      let weight_p = rho ⊗ root ((1·0 ⊕ t) ⊘ (1·0 ⊕ s)) in
+      let weight_a = t ⊖ s ⊗ weight_p in
+      scale_and_add A (scale A a weight_a) p weight_p
 
   -- the point at the angle alpha, rho from A; Paper 7: 19 where that angle is outside
   unfoldable pub at_angle : TriangleConstants → Cartesian → Cartesian → Cartesian → Float → Float → Given Cartesian
