@@ -1,0 +1,12 @@
+-- `checks::check_origin` meets its contract. Assumes nothing.
+use borrow.Author.Tests.{lt-ltb, le-ltb}
+use Rattle.set.specs.Checks.{check_origin}
+use Rattle.set.proofs.checks.check_origin.Goals as goal
+
+pub returns-then-origin-gt11 : goal.returns-then-origin-gt11
+unfolding check_origin
+returns-then-origin-gt11 c = rw (lt-ltb 11 _ c.if-origin-gt11.true)
+
+pub returns : goal.returns
+unfolding check_origin
+returns c = rw (le-ltb 11 _ c.if-origin-gt11.false)
