@@ -1,0 +1,14 @@
+-- `slots::is_filled` meets its contract. Assumes nothing.
+use mathlib.Core.Path.{refl}
+use lib.ListN.{get_or-eq_default}
+use lib.Ieee.{of_bits, eq, nan}
+use Rattle.stores.specs.Slots.{filled}
+use Rattle.stores.proofs.slots.is_filled.Goals as goal
+
+pub returns-then-at-store : goal.returns-then-at-store
+unfolding filled of_bits
+returns-then-at-store c = refl
+
+pub returns : goal.returns
+unfolding filled eq
+returns c = rw (get_or-eq_default c.args.store.now nan c.if-at-store.false)
