@@ -1,18 +1,18 @@
 -- A call as a C function, as one statement: the status that it returns, what it leaves in the numbers lent for its answer, and the set.
 -- Definitions only.
 use Rattle.std.specs.Prelude.{ℕ, ◌≡◌}
-use Rattle.std.specs.Borrow.{Bor}
+use Rattle.std.specs.Borrow.{MutBor}
 use denote.Triple.Both.{Both}
 use Rattle.answer.specs.Given.{Given, answered, refused, status}
 use Rattle.set.specs.Set.{Set}
 use Rattle.set.specs.Outcome.{Outcome, Becomes}
 
 -- what a parameter that is lent for an answer holds: as it is lent, and as it is handed back
-abbrev pub contents : {L : Type 0} → Both (Bor L) (Bor L) → Both L L
+abbrev pub contents : {L : Type 0} → Both (MutBor L) (MutBor L) → Both L L
 contents to = record { entry = to.entry.now; exit = to.exit.now }
 
 -- the same of two
-abbrev pub contents_of : {L M : Type 0} → Both (Bor L) (Bor L) → Both (Bor M) (Bor M) → Both (L × M) (L × M)
+abbrev pub contents_of : {L M : Type 0} → Both (MutBor L) (MutBor L) → Both (MutBor M) (MutBor M) → Both (L × M) (L × M)
 contents_of a b = record { entry = (a.entry.now, b.entry.now); exit = (a.exit.now, b.exit.now) }
 
 -- an answer is written as the numbers that stand for it; a refusal leaves what stood there

@@ -5,7 +5,7 @@ ghost use Rattle.std.specs.Prelude.{◌≡◌};
 ghost use Rattle.arithmetic.specs.Arith.{ieee};
 ghost use Rattle.coordinates.specs.Conversions.{given_face, given_spherical, given_lon_lat};
 ghost use Rattle.origin.specs.Origins.{ORIGINS};
-ghost use Rattle.set.specs.Outcome.{lent, Leaves};
+ghost use Rattle.set.specs.Outcome.{lent, lent_shared, Leaves};
 ghost use Rattle.dodecahedron.specs.Place.{given_place};
 ghost use Rattle.dodecahedron.specs.Work.{given_face_work, given_spherical_work, given_place_work, given_lon_lat_work};
 ghost use Rattle.dodecahedron.specs.Calls.{forward_given, inverse_given, place_given, unplace_given, forward_on, inverse_on, place_on, unplace_on};
@@ -36,7 +36,7 @@ fn forward_work(
     spherical: Spherical,
     origin: u8,
 ) -> FaceWork
-    ensures { given_face_work result ≡ forward_given ieee ORIGINS (lent frame face_store sphere_store).entry spherical origin }
+    ensures { given_face_work result ≡ forward_given ieee ORIGINS (lent_shared frame face_store sphere_store).entry spherical origin }
 {
     let set = check_call(frame, face_store, sphere_store, origin);
     let check = first_refusal(set, check_spherical(spherical));
@@ -75,7 +75,7 @@ fn inverse_work(
     face: Face,
     origin: u8,
 ) -> SphericalWork
-    ensures { given_spherical_work result ≡ inverse_given ieee ORIGINS (lent frame face_store sphere_store).entry face origin }
+    ensures { given_spherical_work result ≡ inverse_given ieee ORIGINS (lent_shared frame face_store sphere_store).entry face origin }
 {
     let set = check_call(frame, face_store, sphere_store, origin);
     let check = first_refusal(set, check_face(face));
@@ -113,7 +113,7 @@ pub fn place_work(
     sphere_store: &[f64],
     lonlat: LonLat,
 ) -> PlaceWork
-    ensures { given_place_work result ≡ place_given ieee ORIGINS (lent frame face_store sphere_store).entry lonlat }
+    ensures { given_place_work result ≡ place_given ieee ORIGINS (lent_shared frame face_store sphere_store).entry lonlat }
 {
     let set = check_set(frame, face_store, sphere_store);
     let check = first_refusal(set, check_lon_lat(lonlat));
@@ -154,7 +154,7 @@ fn unplace_work(
     face: Face,
     origin: u8,
 ) -> LonLatWork
-    ensures { given_lon_lat_work result ≡ unplace_given ieee ORIGINS (lent frame face_store sphere_store).entry face origin }
+    ensures { given_lon_lat_work result ≡ unplace_given ieee ORIGINS (lent_shared frame face_store sphere_store).entry face origin }
 {
     let set = check_call(frame, face_store, sphere_store, origin);
     let check = first_refusal(set, check_face(face));

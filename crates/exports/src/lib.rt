@@ -12,7 +12,7 @@ ghost use Rattle.arithmetic.specs.Arith.{ieee};
 ghost use Rattle.coordinates.specs.Conversions.{from_lon_lat_given, to_lon_lat_given};
 ghost use Rattle.origin.specs.Origins.{ORIGINS};
 ghost use Rattle.nearest_calls.specs.Calls.{nearest_given};
-ghost use Rattle.set.specs.Outcome.{lent, Becomes};
+ghost use Rattle.set.specs.Outcome.{lent_mut, Becomes};
 ghost use Rattle.set.specs.Open.{open_on};
 ghost use Rattle.answer.specs.Given.{status};
 ghost use Rattle.border.specs.Returns.{Returns, contents};
@@ -28,8 +28,8 @@ use set::open::OpenAnswer;
 // Open: writes the frame and fills both stores with 0.0.
 #[unsafe(no_mangle)]
 pub extern "C" fn a5_open(frame: &mut [f64], face_store: &mut [f64], sphere_store: &mut [f64]) -> u8
-    ensures answer { result ≡ status (open_on ieee ORIGINS (lent frame face_store sphere_store).entry).answer }
-    ensures left { Becomes (lent frame face_store sphere_store) (λ s. (open_on ieee ORIGINS s).set) }
+    ensures answer { result ≡ status (open_on ieee ORIGINS (lent_mut frame face_store sphere_store).entry).answer }
+    ensures left { Becomes (lent_mut frame face_store sphere_store) (λ s. (open_on ieee ORIGINS s).set) }
 {
     let given = open_calls::open(frame, face_store, sphere_store);
     match given {

@@ -7,7 +7,7 @@ pub mod files;
 ghost use Rattle.std.specs.Prelude.{◌≡◌};
 ghost use Rattle.arithmetic.specs.Arith.{ieee};
 ghost use Rattle.nearest_calls.specs.Calls.{nearest_given};
-ghost use Rattle.set.specs.Outcome.{lent, Becomes};
+ghost use Rattle.set.specs.Outcome.{lent_mut, Becomes};
 ghost use Rattle.set.specs.Open.{open_on};
 ghost use Rattle.answer.specs.Given.{status};
 ghost use Rattle.border.specs.Returns.{Returns, contents};
@@ -28,8 +28,8 @@ pub extern "C" fn a5_open_with(
     face_store: &mut [f64],
     sphere_store: &mut [f64],
 ) -> u8
-    ensures answer { result ≡ status (with_table_on (open_on ieee) table.now (lent frame face_store sphere_store).entry).answer }
-    ensures left { Becomes (lent frame face_store sphere_store) (λ s. (with_table_on (open_on ieee) table.now s).set) }
+    ensures answer { result ≡ status (with_table_on (open_on ieee) table.now (lent_mut frame face_store sphere_store).entry).answer }
+    ensures left { Becomes (lent_mut frame face_store sphere_store) (λ s. (with_table_on (open_on ieee) table.now s).set) }
 {
     if table.len() != 84 {
         return 20;

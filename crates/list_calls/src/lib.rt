@@ -7,7 +7,7 @@ ghost use Rattle.std.specs.Prelude.{◌≡◌};
 ghost use Rattle.answer.specs.Answer.{given_check};
 ghost use Rattle.arithmetic.specs.Arith.{ieee};
 ghost use Rattle.origin.specs.Origins.{ORIGINS};
-ghost use Rattle.set.specs.Outcome.{lent};
+ghost use Rattle.set.specs.Outcome.{lent, lent_shared};
 ghost use Rattle.place_list.specs.Lists.{step, placed_one, check_list, called, place_list_on};
 
 use answer::Check;
@@ -39,7 +39,7 @@ fn check_list(
     positions: usize,
     results: usize,
 ) -> Check
-    ensures { given_check result ≡ check_list ieee ORIGINS (lent frame face_store sphere_store).entry positions results }
+    ensures { given_check result ≡ check_list ieee ORIGINS (lent_shared frame face_store sphere_store).entry positions results }
 {
     first_refusal(
         check_set(frame, face_store, sphere_store),

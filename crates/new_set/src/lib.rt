@@ -5,7 +5,8 @@ ghost use Rattle.arithmetic.specs.Numbers.{0·0};
 ghost use Rattle.arithmetic.specs.Arith.{ieee};
 ghost use Rattle.answer.specs.Given.{passed};
 ghost use Rattle.set.specs.Checks.{check_with};
-ghost use Rattle.set.specs.Outcome.{held, lent, Leaves};
+ghost use Rattle.set.specs.Outcome.{lent_mut, Leaves};
+ghost use Rattle.set.specs.Set.{set_of};
 ghost use Rattle.set.specs.Open.{given_open, open_on};
 
 use answer::Refusal;
@@ -42,8 +43,8 @@ pub fn open_checked(
     face_store: &mut [f64],
     sphere_store: &mut [f64],
 ) -> OpenAnswer
-    requires { check_with ieee table.now (held frame face_store sphere_store) ≡ passed }
-    ensures { Leaves (lent frame face_store sphere_store) (given_open result) (open_on ieee table.now) }
+    requires { check_with ieee table.now (set_of frame.old face_store.old sphere_store.old) ≡ passed }
+    ensures { Leaves (lent_mut frame face_store sphere_store) (given_open result) (open_on ieee table.now) }
 {
     let mut rows = [0.0; 396];
     let used = build_frame(table, &mut rows);

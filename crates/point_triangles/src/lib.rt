@@ -6,7 +6,7 @@ ghost use Rattle.arithmetic.specs.Arith.{ieee};
 ghost use Rattle.elementary.specs.Sine.{beyond};
 ghost use Rattle.coordinates.specs.Constants.{8·0};
 ghost use Rattle.set.specs.Checks.{check_call};
-ghost use Rattle.set.specs.Outcome.{held, lent};
+ghost use Rattle.set.specs.Outcome.{held, lent_shared};
 ghost use Rattle.triangles.specs.Taken.{given_used, given_taken, used_for, taken_for};
 
 use answer::Check;
@@ -30,7 +30,7 @@ fn take_used(
     polar: Polar,
 ) -> UsedAnswer
     requires { (check_call (held frame face_store sphere_store) id ≡ passed) × (beyond 8·0 origin.angle.0 ≡ false) }
-    ensures { given_used result ≡ used_for ieee origin (lent frame face_store sphere_store).entry id polar }
+    ensures { given_used result ≡ used_for ieee origin (lent_shared frame face_store sphere_store).entry id polar }
 {
     let index = get_face_triangle_index(polar) as u8;
     let reflected = should_reflect(polar);
@@ -62,7 +62,7 @@ pub fn take(
     polar: Polar,
 ) -> TakenAnswer
     requires { beyond 8·0 origin.angle.0 ≡ false }
-    ensures { given_taken result ≡ taken_for ieee origin (lent frame face_store sphere_store).entry id polar }
+    ensures { given_taken result ≡ taken_for ieee origin (lent_shared frame face_store sphere_store).entry id polar }
 {
     let set = check_call(frame, face_store, sphere_store, id);
     if let Check::Refused(n) = set {

@@ -8,7 +8,7 @@ ghost use Rattle.elementary.specs.Sine.{beyond, outside};
 ghost use Rattle.coordinates.specs.Constants.{8·0};
 ghost use Rattle.set.specs.Sizes.{FRAME};
 ghost use Rattle.set.specs.Checks.{check_call};
-ghost use Rattle.set.specs.Outcome.{held, lent};
+ghost use Rattle.set.specs.Outcome.{held, lent_shared};
 ghost use Rattle.dodecahedron.specs.Work.{given_face_work, given_spherical_work};
 ghost use Rattle.dodecahedron.specs.Projection.{row_at, frame_constants, polar_about, forward_core, inverse_core};
 
@@ -77,7 +77,7 @@ pub fn forward_core(
 ) -> FaceWork
     requires id_value { (check_call (held frame face_store sphere_store) id ≡ passed) × (beyond 8·0 origin.angle.0 ≡ false) }
     requires theta_value { (outside spherical.theta.0 ≡ false) × (outside spherical.phi.0 ≡ false) }
-    ensures { given_face_work result ≡ forward_core ieee origin (lent frame face_store sphere_store).entry spherical id }
+    ensures { given_face_work result ≡ forward_core ieee origin (lent_shared frame face_store sphere_store).entry spherical id }
 {
     let unprojected = to_cartesian(spherical);
     let polar = polar_about(origin, unprojected);
@@ -109,7 +109,7 @@ pub fn inverse_core(
     id: u8,
 ) -> SphericalWork
     requires { (check_call (held frame face_store sphere_store) id ≡ passed) × (beyond 8·0 origin.angle.0 ≡ false) }
-    ensures { given_spherical_work result ≡ inverse_core ieee origin (lent frame face_store sphere_store).entry face id }
+    ensures { given_spherical_work result ≡ inverse_core ieee origin (lent_shared frame face_store sphere_store).entry face id }
 {
     match take(frame, face_store, sphere_store, origin, id, to_polar(face)) {
         TakenAnswer::Refused(n) => SphericalWork::Refused(n),

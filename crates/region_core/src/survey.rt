@@ -1,7 +1,7 @@
 // The positions of an outline worked out on the set as it stands: nothing is written here.
 ghost use Rattle.std.specs.Prelude.{◌≤◌, ◌≡◌, ◌||◌, take};
 ghost use Rattle.arithmetic.specs.Arith.{ieee};
-ghost use Rattle.set.specs.Outcome.{lent};
+ghost use Rattle.set.specs.Outcome.{lent_shared};
 ghost use Rattle.dodecahedron.specs.Work.{given_place_work};
 ghost use Rattle.dodecahedron.specs.Calls.{place_given};
 ghost use Rattle.region_work.specs.Parts.{table_of, slot_empty, nothing_seen, seen_next, given_found, survey_of};
@@ -30,7 +30,7 @@ fn look(
     position: LonLat,
 ) -> PlaceWork
     ensures { given_place_work result
-        ≡ place_given ieee (table_of built_in table.now) (lent frame face_store sphere_store).entry position }
+        ≡ place_given ieee (table_of built_in table.now) (lent_shared frame face_store sphere_store).entry position }
 {
     if built_in {
         return place_work(frame, face_store, sphere_store, position);
@@ -40,7 +40,7 @@ fn look(
 
 // Whether a slot that a position uses is empty, and so will be written.
 fn slot_empty(frame: &[f64], face_store: &[f64], sphere_store: &[f64], used: Used) -> bool
-    ensures { result ≡ slot_empty (lent frame face_store sphere_store).entry used }
+    ensures { result ≡ slot_empty (lent_shared frame face_store sphere_store).entry used }
 {
     let own = face_slot(used.index, used.reflected) * FACE_WIDTH;
     if !is_filled(face_store, own) {
@@ -113,7 +113,7 @@ pub(crate) fn survey(
 ) -> Found
     requires { n ≤ 256 }
     ensures { given_found result n
-        ≡ survey_of ieee (table_of built_in table.now) (lent frame face_store sphere_store).entry nothing_seen (take n positions) }
+        ≡ survey_of ieee (table_of built_in table.now) (lent_shared frame face_store sphere_store).entry nothing_seen (take n positions) }
 {
     let mut points = [Face(Vec2 { x: 0.0, y: 0.0 }); 256];
     let mut seen = nothing_seen();

@@ -5,7 +5,7 @@ ghost use Rattle.answer.specs.Answer.{number_of, given_check};
 ghost use Rattle.arithmetic.specs.Arith.{ieee};
 ghost use Rattle.origin.specs.Origins.{ORIGINS};
 ghost use Rattle.set.specs.Checks.{check_with};
-ghost use Rattle.set.specs.Outcome.{lent, Becomes};
+ghost use Rattle.set.specs.Outcome.{lent, lent_shared, Becomes};
 ghost use Rattle.dodecahedron.specs.Calls.{place_on};
 ghost use Rattle.place_list.specs.Lists.{placed_in_turn};
 ghost use Rattle.region_work.specs.Region.{given_region, check_positions};
@@ -54,7 +54,7 @@ fn check_either(
     face_store: &[f64],
     sphere_store: &[f64],
 ) -> Check
-    ensures { given_check result ≡ check_with ieee (table_of built_in table.now) (lent frame face_store sphere_store).entry }
+    ensures { given_check result ≡ check_with ieee (table_of built_in table.now) (lent_shared frame face_store sphere_store).entry }
 {
     if built_in {
         return check_set(frame, face_store, sphere_store);
@@ -72,7 +72,7 @@ fn check_region(
     n: usize,
     m: usize,
 ) -> Check
-    ensures { given_check result ≡ check_region ieee (table_of built_in table.now) (lent frame face_store sphere_store).entry n m }
+    ensures { given_check result ≡ check_region ieee (table_of built_in table.now) (lent_shared frame face_store sphere_store).entry n m }
 {
     let set = check_either(built_in, table, frame, face_store, sphere_store);
     first_refusal(set, first_refusal(check_positions(n), check_counts(n, m)))

@@ -5,7 +5,7 @@ mod regions;
 mod steps;
 
 ghost use Rattle.origin.specs.Origins.{ORIGINS};
-ghost use Rattle.set.specs.Outcome.{lent, Becomes};
+ghost use Rattle.set.specs.Outcome.{lent_mut, Becomes};
 ghost use Rattle.replay_call.specs.Performed.{performed};
 
 use crate::lists::listed;
@@ -24,7 +24,7 @@ pub fn perform(
     sphere_store: &mut [f64],
     call: Call,
 ) -> Outcome
-    ensures { Becomes (lent frame face_store sphere_store) (λ s. performed ORIGINS s call) }
+    ensures { Becomes (lent_mut frame face_store sphere_store) (λ s. performed ORIGINS s call) }
 {
     match call {
         Call::Open => of_open(open(frame, face_store, sphere_store)),

@@ -4,7 +4,7 @@ mod lists;
 mod regions;
 mod steps;
 
-ghost use Rattle.set.specs.Outcome.{lent, Becomes};
+ghost use Rattle.set.specs.Outcome.{lent_mut, Becomes};
 ghost use Rattle.replay_call.specs.Performed.{performed};
 
 use crate::lists::listed_with;
@@ -25,7 +25,7 @@ pub fn perform_with(
     sphere_store: &mut [f64],
     call: Call,
 ) -> Outcome
-    ensures { Becomes (lent frame face_store sphere_store) (λ s. performed table s call) }
+    ensures { Becomes (lent_mut frame face_store sphere_store) (λ s. performed table s call) }
 {
     match call {
         Call::Open => of_open(open_with(table, frame, face_store, sphere_store)),

@@ -1,7 +1,7 @@
 -- The contract of a call on a set, as one statement: its answer and the set that it leaves are those of its definition, for the
 -- set that it is lent. Definitions only.
 use Rattle.std.specs.Prelude.{◌≡◌, List, Float}
-use Rattle.std.specs.Borrow.{Bor}
+use Rattle.std.specs.Borrow.{Bor, MutBor}
 use denote.Triple.Both.{Both}
 use Rattle.answer.specs.Given.{Given}
 use Rattle.set.specs.Set.{Set, set_of}
@@ -17,16 +17,35 @@ pub record Outcome (X : Type 0) : Type 0 where
 abbrev pub held : Bor (List Float) → Bor (List Float) → Bor (List Float) → Set
 held frame faces spheres = set_of frame.now faces.now spheres.now
 
--- a parameter that is a buffer: as it is lent, and as it is handed back
-abbrev pub Buffer : Type 0
-Buffer = Both (Bor (List Float)) (Bor (List Float))
+-- a parameter that is a buffer, lent to be read or to be written: as it is lent, and as it is handed back
+abbrev pub SharedBuffer : Type 0
+SharedBuffer = Both (Bor (List Float)) (Bor (List Float))
 
--- three such parameters: the set that is lent, and the set that is handed back
-abbrev pub lent : Buffer → Buffer → Buffer → Both Set Set
+abbrev pub Buffer : Type 0
+Buffer = Both (MutBor (List Float)) (MutBor (List Float))
+
+-- three such parameters: the set that is lent, and the set that is handed back. A call on a set reads the frame and writes the stores
+abbrev pub lent : SharedBuffer → Buffer → Buffer → Both Set Set
 lent frame faces spheres =
+    record {
+      entry = set_of frame.entry.now faces.entry.now spheres.entry.now;
+      exit = set_of frame.exit.now faces.exit.now spheres.exit.now;
+    }
+
+-- the same where all three are read
+abbrev pub lent_shared : SharedBuffer → SharedBuffer → SharedBuffer → Both Set Set
+lent_shared frame faces spheres =
     record {
       entry = held frame.entry faces.entry spheres.entry;
       exit = held frame.exit faces.exit spheres.exit;
+    }
+
+-- the same where all three are written, as open does
+abbrev pub lent_mut : Buffer → Buffer → Buffer → Both Set Set
+lent_mut frame faces spheres =
+    record {
+      entry = set_of frame.entry.now faces.entry.now spheres.entry.now;
+      exit = set_of frame.exit.now faces.exit.now spheres.exit.now;
     }
 
 -- the set is handed back as a function of what it was

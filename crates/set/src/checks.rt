@@ -4,7 +4,7 @@ ghost use Rattle.answer.specs.Given.{and_then};
 ghost use Rattle.answer.specs.Answer.{given_check};
 ghost use Rattle.arithmetic.specs.Arith.{ieee};
 ghost use Rattle.set.specs.Checks.{check_origin, check_call, check_with};
-ghost use Rattle.set.specs.Outcome.{lent};
+ghost use Rattle.set.specs.Outcome.{lent_shared};
 
 use crate::set::check_set;
 use answer::{Check, Refusal};
@@ -32,7 +32,7 @@ pub fn check_origin(origin: u8) -> Check
 
 // 1, 2, 3, 4.
 pub fn check_call(frame: &[f64], face_store: &[f64], sphere_store: &[f64], origin: u8) -> Check
-    ensures { given_check result ≡ check_call (lent frame face_store sphere_store).entry origin }
+    ensures { given_check result ≡ check_call (lent_shared frame face_store sphere_store).entry origin }
 {
     first_refusal(
         check_set(frame, face_store, sphere_store),
@@ -47,7 +47,7 @@ pub fn check_with(
     face_store: &[f64],
     sphere_store: &[f64],
 ) -> Check
-    ensures { given_check result ≡ check_with ieee table.now (lent frame face_store sphere_store).entry }
+    ensures { given_check result ≡ check_with ieee table.now (lent_shared frame face_store sphere_store).entry }
 {
     first_refusal(
         check_set(frame, face_store, sphere_store),

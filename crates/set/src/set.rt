@@ -2,14 +2,14 @@
 ghost use Rattle.std.specs.Prelude.{◌≡◌};
 ghost use Rattle.answer.specs.Answer.{given_check};
 ghost use Rattle.set.specs.Set.{check_set};
-ghost use Rattle.set.specs.Outcome.{lent};
+ghost use Rattle.set.specs.Outcome.{lent_shared};
 
 use crate::sizes::{FACE_STORE, FRAME, SPHERE_STORE};
 use answer::{Check, Refusal};
 
 // 1, 2, 3: the lengths of the three buffers.
 pub fn check_set(frame: &[f64], face_store: &[f64], sphere_store: &[f64]) -> Check
-    ensures { given_check result ≡ check_set (lent frame face_store sphere_store).entry }
+    ensures { given_check result ≡ check_set (lent_shared frame face_store sphere_store).entry }
 {
     if frame.len() != FRAME {
         return Check::Refused(Refusal::FrameLength);

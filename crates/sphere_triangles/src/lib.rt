@@ -5,7 +5,7 @@ ghost use Rattle.std.specs.Prelude.{◌≡◌, false, ◌<◌, length};
 ghost use Rattle.arithmetic.specs.Arith.{ieee};
 ghost use Rattle.elementary.specs.Sine.{beyond};
 ghost use Rattle.coordinates.specs.Constants.{8·0};
-ghost use Rattle.set.specs.Outcome.{lent};
+ghost use Rattle.set.specs.Outcome.{lent_shared};
 ghost use Rattle.set.specs.Sizes.{FACE_SLOTS, FACE_STORE, SPHERE_SLOTS, SPHERE_STORE};
 ghost use Rattle.triangles.specs.Triangles.{sphere_built, sphere_taken, cross_taken, given_triangle};
 
@@ -48,7 +48,7 @@ pub fn take_sphere(
     requires slot_bound { (slot < SPHERE_SLOTS) × (length sphere_store.now ≡ SPHERE_STORE) }
     requires source_bound { (source < FACE_SLOTS) × (length face_store.now ≡ FACE_STORE) }
     requires angle_value { beyond 8·0 origin.angle.0 ≡ false }
-    ensures { given_triangle result ≡ sphere_taken ieee (lent frame face_store sphere_store).entry origin slot source }
+    ensures { given_triangle result ≡ sphere_taken ieee (lent_shared frame face_store sphere_store).entry origin slot source }
 {
     let at = slot * SPHERE_WIDTH;
     if is_filled(sphere_store, at) {

@@ -3,7 +3,7 @@
 #![tactic(auto)]
 
 ghost use Rattle.std.specs.Prelude.{◌≡◌, ◌≤◌, length};
-ghost use Rattle.set.specs.Outcome.{lent};
+ghost use Rattle.set.specs.Outcome.{lent, lent_mut};
 ghost use Rattle.strike_reads.specs.Steps.{Begins, Roomy, state_of, begun, Ended};
 
 use set::sizes::{FACE_STORE, FRAME, SPHERE_STORE};
@@ -72,8 +72,8 @@ fn run<R: Read, W: Write>(
 ) -> Last
     requires { Roomy buffer.old out.old }
     ensures { Ended (length buffer.old) (length out.old)
-        (begun (lent frame face_store sphere_store).entry)
-        (state_of result.stage result.kept (lent frame face_store sphere_store).exit buffer.new)
+        (begun (lent_mut frame face_store sphere_store).entry)
+        (state_of result.stage result.kept (lent_mut frame face_store sphere_store).exit buffer.new)
         result.written out.new }
 {
     let begun = begin(frame, face_store, sphere_store, out);

@@ -1,6 +1,6 @@
 -- Bytes written into a buffer that is lent. Definitions only.
 use Rattle.std.specs.Prelude.{ℕ, ◌+◌, ◌≡◌, List, length}
-use Rattle.std.specs.Borrow.{Bor}
+use Rattle.std.specs.Borrow.{MutBor}
 use denote.Triple.Both.{Both}
 use Rattle.stores.specs.Slots.{put}
 
@@ -13,7 +13,7 @@ abbrev pub change : {A : Type 0} → A → A → Both A A
 change before after = record { entry = before; exit = after }
 
 -- the same of a parameter
-abbrev pub lent_bytes : Both (Bor (List ℕ)) (Bor (List ℕ)) → Bytes
+abbrev pub lent_bytes : Both (MutBor (List ℕ)) (MutBor (List ℕ)) → Bytes
 lent_bytes b = change b.entry.now b.exit.now
 
 -- so many bytes stand from a place on, in the place of as many, and end at another; nothing else is changed

@@ -1,7 +1,7 @@
 // A session on slices. The caller keeps the bytes that were not taken, and lends them again
 // with what arrives next behind them: how the input is cut changes nothing.
 ghost use Rattle.std.specs.Prelude.{◌≡◌};
-ghost use Rattle.set.specs.Outcome.{lent};
+ghost use Rattle.set.specs.Outcome.{lent_mut};
 ghost use Rattle.strike_records.specs.Line.{refusal_line};
 ghost use Rattle.strike_records.specs.Writes.{lent_bytes};
 ghost use Rattle.strike_session.specs.Pieces.{end_line, over};
@@ -50,7 +50,7 @@ pub fn begin(
     sphere_store: &mut [f64],
     out: &mut [u8],
 ) -> Begun
-    ensures { Opens (lent frame face_store sphere_store) (lent_bytes out) result }
+    ensures { Opens (lent_mut frame face_store sphere_store) (lent_bytes out) result }
 {
     match open_calls::open(frame, face_store, sphere_store) {
         OpenAnswer::Opened => Begun {

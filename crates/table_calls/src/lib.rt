@@ -7,7 +7,7 @@ ghost use Rattle.answer.specs.Answer.{given_check};
 ghost use Rattle.arithmetic.specs.Arith.{ieee};
 ghost use Rattle.coordinates.specs.Conversions.{given_face, given_spherical, given_lon_lat};
 ghost use Rattle.set.specs.Checks.{check_origin, check_with};
-ghost use Rattle.set.specs.Outcome.{lent, Leaves};
+ghost use Rattle.set.specs.Outcome.{lent, lent_shared, Leaves};
 ghost use Rattle.dodecahedron.specs.Place.{given_place};
 ghost use Rattle.dodecahedron.specs.Work.{given_face_work, given_spherical_work, given_place_work, given_lon_lat_work};
 ghost use Rattle.dodecahedron.specs.Calls.{forward_given, inverse_given, place_given, unplace_given, forward_on, inverse_on, place_on, unplace_on};
@@ -37,7 +37,7 @@ fn check_call_with(
     sphere_store: &[f64],
     origin: u8,
 ) -> Check
-    ensures { given_check result ≡ and_then (check_with ieee table.now (lent frame face_store sphere_store).entry) (check_origin origin) }
+    ensures { given_check result ≡ and_then (check_with ieee table.now (lent_shared frame face_store sphere_store).entry) (check_origin origin) }
 {
     first_refusal(
         check_with(table, frame, face_store, sphere_store),
@@ -54,7 +54,7 @@ fn forward_work_with(
     spherical: Spherical,
     origin: u8,
 ) -> FaceWork
-    ensures { given_face_work result ≡ forward_given ieee table.now (lent frame face_store sphere_store).entry spherical origin }
+    ensures { given_face_work result ≡ forward_given ieee table.now (lent_shared frame face_store sphere_store).entry spherical origin }
 {
     let set = check_call_with(table, frame, face_store, sphere_store, origin);
     let check = first_refusal(set, check_spherical(spherical));
@@ -95,7 +95,7 @@ fn inverse_work_with(
     face: Face,
     origin: u8,
 ) -> SphericalWork
-    ensures { given_spherical_work result ≡ inverse_given ieee table.now (lent frame face_store sphere_store).entry face origin }
+    ensures { given_spherical_work result ≡ inverse_given ieee table.now (lent_shared frame face_store sphere_store).entry face origin }
 {
     let set = check_call_with(table, frame, face_store, sphere_store, origin);
     let check = first_refusal(set, check_face(face));
@@ -135,7 +135,7 @@ pub fn place_work_with(
     sphere_store: &[f64],
     lonlat: LonLat,
 ) -> PlaceWork
-    ensures { given_place_work result ≡ place_given ieee table.now (lent frame face_store sphere_store).entry lonlat }
+    ensures { given_place_work result ≡ place_given ieee table.now (lent_shared frame face_store sphere_store).entry lonlat }
 {
     let set = check_with(table, frame, face_store, sphere_store);
     let check = first_refusal(set, check_lon_lat(lonlat));
@@ -178,7 +178,7 @@ fn unplace_work_with(
     face: Face,
     origin: u8,
 ) -> LonLatWork
-    ensures { given_lon_lat_work result ≡ unplace_given ieee table.now (lent frame face_store sphere_store).entry face origin }
+    ensures { given_lon_lat_work result ≡ unplace_given ieee table.now (lent_shared frame face_store sphere_store).entry face origin }
 {
     let set = check_call_with(table, frame, face_store, sphere_store, origin);
     let check = first_refusal(set, check_face(face));

@@ -4,7 +4,7 @@
 ghost use Rattle.std.specs.Prelude.{◌≡◌};
 ghost use Rattle.answer.specs.Answer.{given_check};
 ghost use Rattle.arithmetic.specs.Arith.{ieee};
-ghost use Rattle.set.specs.Outcome.{lent};
+ghost use Rattle.set.specs.Outcome.{lent, lent_shared};
 ghost use Rattle.place_list.specs.Lists.{step, placed_one, check_list, called, place_list_on};
 
 use answer::Check;
@@ -37,7 +37,7 @@ fn check_list_with(
     positions: usize,
     results: usize,
 ) -> Check
-    ensures { given_check result ≡ check_list ieee table (lent frame face_store sphere_store).entry positions results }
+    ensures { given_check result ≡ check_list ieee table (lent_shared frame face_store sphere_store).entry positions results }
 {
     let set = check_with(&table, frame, face_store, sphere_store);
     let counts = check_counts(positions, results);

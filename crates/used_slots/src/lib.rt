@@ -3,7 +3,7 @@
 ghost use Rattle.std.specs.Prelude.{◌≡◌, ◌<◌, length};
 ghost use Rattle.arithmetic.specs.Arith.{ieee};
 ghost use Rattle.set.specs.Sizes.{FACE_STORE};
-ghost use Rattle.set.specs.Outcome.{lent, Becomes};
+ghost use Rattle.set.specs.Outcome.{lent, lent_shared, Becomes};
 ghost use Rattle.stores.specs.Used.{has_slots, faces_written, written_if_there};
 
 use answer::Check;
@@ -14,7 +14,7 @@ use stores::used::Used;
 
 // Whether the set passes 1 to 4, and the slots used are among its.
 fn has_slots(frame: &[f64], face_store: &[f64], sphere_store: &[f64], used: Used) -> bool
-    ensures { result ≡ has_slots (lent frame face_store sphere_store).entry used }
+    ensures { result ≡ has_slots (lent_shared frame face_store sphere_store).entry used }
 {
     let check = check_call(frame, face_store, sphere_store, used.origin);
     if let Check::Refused(_) = check {
