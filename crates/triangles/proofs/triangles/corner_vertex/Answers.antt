@@ -1,0 +1,20 @@
+-- `triangles::corner_vertex` meets its contract. Assumes nothing.
+use Rattle.triangles.specs.Triangles.{corner_vertex}
+use Rattle.triangles.proofs.Sizes.{corner_inside}
+use Rattle.triangles.proofs.triangles.corner_vertex.Goals as goal
+
+pub to_cartesian-rotated-requires : goal.to_cartesian-rotated-requires
+to_cartesian-rotated-requires c =
+    rw (c.inverse.ensures, c.to_polar-polar.ensures)
+    (corner_inside c.args.corner c.args.origin.angle.0 c.requires)
+
+pub returns : goal.returns
+unfolding corner_vertex
+returns c =
+    rw (
+      c.get_vertex.ensures,
+      c.transform_quat.ensures,
+      c.to_cartesian-rotated.ensures,
+      c.inverse.ensures,
+      c.to_polar-polar.ensures,
+    )
