@@ -2,7 +2,7 @@
 -- it, whether a used slot is empty, the box, and the points. And where no used slot is empty, placing in turn leaves the set as it was.
 -- Assumes nothing.
 use mathlib.Core.Path.{◌≡◌, refl, sym, ap, ◌∙◌}
-use mathlib.Core.Bool.{Bool, true, false, not, cond, ◌&&◌, ◌||◌, or_false, or_assoc, true≢false}
+use mathlib.Core.Bool.{Bool, true, false, not, cond, ◌&&◌, ◌||◌, or-false, or_assoc, true≢false}
 use mathlib.Core.List.{List, [], ◌∷◌}
 use Prim.Native.Nat.{ℕ}
 use lib.Dec.{eqb}
@@ -106,7 +106,7 @@ module _ (A : Arith) (table : List Float) (s : Set) where
       → seen_after (seen_of o differ pending box) ps
       ≡ seen_of o (differ || not (all_on o (each A table s ps))) (pending || any_empty ps) (grown_all box (points_of (each A table s ps)))
   unfolding seen_after any_empty grown_all
-  seen_later [] o differ pending box filled pass = λ j. seen_of o (sym (or_false differ) j) (sym (or_false pending) j) box
+  seen_later [] o differ pending box filled pass = λ j. seen_of o (sym (or-false differ) j) (sym (or-false pending) j) box
   seen_later (p ∷ ps) o differ pending box filled pass =
       by (place_given A table s p) (place_numbered A table s p) (refuse_answered _ _ (first_failing (each A table s ps)) tt pass) (seen_later ps)
     where
