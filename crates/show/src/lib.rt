@@ -1,5 +1,6 @@
 // Show and its companion: what a slot of a set's stores holds. Both only read.
 #![tactic(auto)]
+
 ghost use Rattle.std.specs.Prelude.{◌≡◌, ◌+◌, ◌<◌, ◌≤◌, length};
 ghost use Rattle.answer.specs.Given.{answered};
 ghost use Rattle.stores.specs.Slots.{filled};
