@@ -1,5 +1,6 @@
 // Writing a slot: its mark and its numbers, where it is empty.
 #![tactic(auto)]
+
 ghost use Rattle.std.specs.Prelude.{◌≡◌, ◌∷◌, ◌+◌, ◌<◌, ◌≤◌, length};
 ghost use Rattle.arithmetic.specs.Numbers.{1·0};
 ghost use Rattle.arithmetic.specs.Arith.{ieee};

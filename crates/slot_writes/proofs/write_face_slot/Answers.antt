@@ -1,0 +1,13 @@
+-- `write_face_slot` meets its contract. Assumes nothing.
+use Rattle.stores.specs.Slots.{slot_written}
+use Rattle.stores.specs.Used.{face_written}
+use Rattle.slot_writes.proofs.write_face_slot.Goals as goal
+
+pub returns-then-is_filled : goal.returns-then-is_filled
+unfolding face_written slot_written
+returns-then-is_filled c = simp (← c.is_filled.ensures, c.if-is_filled.true)
+
+pub returns : goal.returns
+unfolding face_written slot_written
+returns c =
+    simp (c.store_face.ensures, c.face_triangle.ensures, ← c.is_filled.ensures, c.if-is_filled.false)

@@ -1,0 +1,12 @@
+-- `write_sphere_slot` meets its contract. Assumes nothing.
+use Rattle.stores.specs.Slots.{slot_written}
+use Rattle.slot_writes.proofs.write_sphere_slot.Goals as goal
+
+pub returns-then-is_filled : goal.returns-then-is_filled
+unfolding slot_written
+returns-then-is_filled c = simp (← c.is_filled.ensures, c.if-is_filled.true)
+
+pub returns : goal.returns
+unfolding slot_written
+returns c =
+    simp (c.store_sphere.ensures, ← c.is_filled.ensures, c.if-is_filled.false)
