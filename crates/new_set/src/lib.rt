@@ -1,5 +1,6 @@
 // A new set, where all checks have passed: the frame written, and both stores emptied.
 #![tactic(auto)]
+
 ghost use Rattle.std.specs.Prelude.{◌≡◌, length, replicate};
 ghost use Rattle.arithmetic.specs.Numbers.{0·0};
 ghost use Rattle.arithmetic.specs.Arith.{ieee};

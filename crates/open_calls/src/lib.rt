@@ -1,5 +1,6 @@
 // Open as calls: with the built-in table, and with another.
 #![tactic(auto)]
+
 ghost use Rattle.arithmetic.specs.Arith.{ieee};
 ghost use Rattle.origin.specs.Origins.{ORIGINS};
 ghost use Rattle.set.specs.Outcome.{lent_mut, Leaves};
