@@ -1,3 +1,4 @@
 // What the C functions share: the statement of one (specs/), and the numbers of a table that is lent with a length.
 #![tactic(auto)]
+
 pub mod rows;
