@@ -1,6 +1,7 @@
 // The sphere triangle of a slot, and b × c: a filled slot as it stands, and for an empty one the
 // triangle that is built for it.
 #![tactic(auto)]
+
 ghost use Rattle.std.specs.Prelude.{◌≡◌, false, ◌<◌, length};
 ghost use Rattle.arithmetic.specs.Arith.{ieee};
 ghost use Rattle.elementary.specs.Sine.{beyond};

@@ -1,0 +1,12 @@
+-- `take_sphere` meets its contract. Assumes nothing.
+use Rattle.triangles.specs.Triangles.{sphere_taken}
+use Rattle.stores.proofs.Runs.{gap}
+use Rattle.sphere_triangles.proofs.take_sphere.Goals as goal
+
+pub returns-then-is_filled : goal.returns-then-is_filled
+unfolding sphere_taken
+returns-then-is_filled c = simp (c.read_sphere.ensures, ← c.is_filled.ensures, c.if-is_filled.true, gap)
+
+pub returns-else-is_filled : goal.returns-else-is_filled
+unfolding sphere_taken
+returns-else-is_filled c = simp (c.build_sphere.ensures, c.take_face.ensures, ← c.is_filled.ensures, c.if-is_filled.false)
