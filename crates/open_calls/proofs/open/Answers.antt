@@ -16,10 +16,3 @@ pub open_checked-requires : goal.open_checked-requires
 open_checked-requires c =
     let set_passes = sym c.check_set-check.ensures ∙ ap given_check c.in_default.is in
     rw c.built_in-table.ensures (built_in_check _ ∙ set_passes)
-
-pub returns : goal.returns
-returns c =
-    rw c.built_in-table.ensures at c.open_checked.ensures
-
-pub check_set-check-requires : goal.check_set-check-requires
-check_set-check-requires c = tt

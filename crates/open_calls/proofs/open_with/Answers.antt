@@ -9,11 +9,3 @@ pub returns-in-Refused : goal.returns-in-Refused
 returns-in-Refused c =
     let refused = open_refused ieee _ _ _ (sym c.check_with-check.ensures ∙ ap given_check c.in-Refused.is) in
     record { answer = sym refused; left = rw refused }
-
-pub open_checked-requires : goal.open_checked-requires
-open_checked-requires c =
-    sym c.check_with-check.ensures ∙ ap given_check c.in_default.is
-
-pub returns : goal.returns
-returns c =
-    c.open_checked.ensures
