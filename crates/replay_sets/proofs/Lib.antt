@@ -1,2 +1,0 @@
--- Laws behind the walks that lend local arrays.
-pub mod Cells
