@@ -1,5 +1,4 @@
 -- Laws behind the proofs of the functions.
-pub mod Rows
 pub mod Loop
 pub mod Numbers
 pub mod Kept

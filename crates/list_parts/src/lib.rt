@@ -1,6 +1,7 @@
 // Radar lists in one go (document 02, Paper 1): what the calls on a list share, with a table of origins and without one. A result,
 // 14, and how many positions are placed; and the laws behind their loops.
 #![tactic(auto)]
+
 ghost use Rattle.std.specs.Prelude.{◌≡◌};
 ghost use Rattle.answer.specs.Answer.{given_check};
 ghost use Rattle.dodecahedron.specs.Place.{given_place};
