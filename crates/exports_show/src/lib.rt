@@ -1,6 +1,7 @@
 // Show and its companion as C functions. Show's part is an offset and a length in the store named. What crate exports says of
 // pointers, lengths and answers holds here too.
 #![tactic(auto)]
+
 ghost use Rattle.std.specs.Prelude.{◌≡◌, ◌<◌};
 ghost use Rattle.show.specs.Show.{slot_given, slots_in};
 ghost use Rattle.border.specs.Returns.{Returns, contents};
