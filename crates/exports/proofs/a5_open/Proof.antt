@@ -8,9 +8,9 @@ use Rattle.exports.proofs.a5_open.Tie as tie
 
 returns : tie.Need-returns
 returns c =
-    let at-sphere-store = c.before.before.before in
-    let at-face-store = at-sphere-store.before.before in
-    let at_open = at-face-store.before.before.before in
+    let at-sphere_store = c.before.before.before in
+    let at-face_store = at-sphere_store.before.before in
+    let at_open = at-face_store.before.before.before in
     let call = at_open.«open».ensures in
     let answer = sym (ap given_open c.enum_told.given.1) ∙ call.answer in
     (ap status answer, call.left)
@@ -18,9 +18,9 @@ returns c =
 returns-2 : tie.Need-returns-2
 returns-2 c =
     let at-given = c.before.before in
-    let at-sphere-store = at-given.before.before.before in
-    let at-face-store = at-sphere-store.before.before in
-    let at_open = at-face-store.before.before.before in
+    let at-sphere_store = at-given.before.before.before in
+    let at-face_store = at-sphere_store.before.before in
+    let at_open = at-face_store.before.before.before in
     let call = at_open.«open».ensures in
     let refusal = sym (ap given_open at-given.given.given.1) ∙ call.answer in
     (c.number.ensures ∙ ap status refusal, call.left)

@@ -9,8 +9,8 @@ use Rattle.exports_place.proofs.a5_unplace.Tie as tie
 returns : tie.Need-returns
 returns c =
     let at-given = c.before.before in
-    let at-sphere-store = at-given.before.before.before in
-    let at-unplace = at-sphere-store.before.before.before in
+    let at-sphere_store = at-given.before.before.before in
+    let at-unplace = at-sphere_store.before.before.before in
     let call = at-unplace.unplace.ensures in
     let answer = sym call.answer ∙ ap given_lon_lat at-given.given.given.1 in
     record { returns = returns_answer _ answer refl refl; left = call.left }
@@ -18,8 +18,8 @@ returns c =
 returns-2 : tie.Need-returns-2
 returns-2 c =
     let at-given2 = c.before.before in
-    let at-sphere-store = at-given2.before.before.before in
-    let at-unplace = at-sphere-store.before.before.before in
+    let at-sphere_store = at-given2.before.before.before in
+    let at-unplace = at-sphere_store.before.before.before in
     let call = at-unplace.unplace.ensures in
     let refusal = sym call.answer ∙ ap given_lon_lat at-given2.given2.given.1 in
     record { returns = returns_refusal _ refusal c.number.ensures refl; left = call.left }

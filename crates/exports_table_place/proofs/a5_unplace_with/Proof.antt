@@ -14,8 +14,8 @@ returns c = refused_20 _ _ _ _ _ _ (ne_eqb _ _ c.if1.true) refl refl refl
 returns-2 : tie.Need-returns-2
 returns-2 c =
     let at-given = c.before.before in
-    let at-sphere-store = at-given.before.before.before in
-    let at-unplace = at-sphere-store.before.before.before in
+    let at-sphere_store = at-given.before.before.before in
+    let at-unplace = at-sphere_store.before.before.before in
     let at_rows = at-unplace.before.before.before in
     let tested = at_rows.before in
     let call = at-unplace.unplace-with.ensures in
@@ -26,8 +26,8 @@ returns-2 c =
 returns-3 : tie.Need-returns-3
 returns-3 c =
     let at-given2 = c.before.before in
-    let at-sphere-store = at-given2.before.before.before in
-    let at-unplace = at-sphere-store.before.before.before in
+    let at-sphere_store = at-given2.before.before.before in
+    let at-unplace = at-sphere_store.before.before.before in
     let at_rows = at-unplace.before.before.before in
     let tested = at_rows.before in
     let call = at-unplace.unplace-with.ensures in

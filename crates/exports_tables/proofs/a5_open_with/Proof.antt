@@ -16,9 +16,9 @@ returns c =
 
 returns-2 : tie.Need-returns-2
 returns-2 c =
-    let at-sphere-store = c.before.before.before in
-    let at-face-store = at-sphere-store.before.before in
-    let at_open = at-face-store.before.before.before in
+    let at-sphere_store = c.before.before.before in
+    let at-face_store = at-sphere_store.before.before in
+    let at_open = at-face_store.before.before.before in
     let at-lent = at_open.before.before in
     let at_rows = at-lent.before.before in
     let tested = at_rows.before in
@@ -30,9 +30,9 @@ returns-2 c =
 returns-3 : tie.Need-returns-3
 returns-3 c =
     let at-given = c.before.before in
-    let at-sphere-store = at-given.before.before.before in
-    let at-face-store = at-sphere-store.before.before in
-    let at_open = at-face-store.before.before.before in
+    let at-sphere_store = at-given.before.before.before in
+    let at-face_store = at-sphere_store.before.before in
+    let at_open = at-face_store.before.before.before in
     let at-lent = at_open.before.before in
     let at_rows = at-lent.before.before in
     let tested = at_rows.before in
