@@ -1,6 +1,7 @@
 // A region's answer as C is told of it: a number, and the origin and the box, which are written where it answered. Crate
 // exports_region has the C functions.
 #![tactic(auto)]
+
 ghost use Rattle.std.specs.Prelude.{◌≡◌};
 ghost use Rattle.answer.specs.Given.{status};
 ghost use Rattle.border.specs.Returns.{written};
