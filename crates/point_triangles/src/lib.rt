@@ -1,5 +1,6 @@
 // The triangles that a call takes for a point. Nothing is written here.
 #![tactic(auto)]
+
 ghost use Rattle.std.specs.Prelude.{◌≡◌, false};
 ghost use Rattle.answer.specs.Given.{passed};
 ghost use Rattle.arithmetic.specs.Arith.{ieee};
