@@ -2,12 +2,14 @@
 --     stepped        what a call on the set of turn i says, on the frame that was lent, is what it says on that set
 --     kept_next      it is kept over a turn
 --     ended_at       after the last turn, what is left is what `place_list_on` says
+--     Turned         the loop's invariant: stores and results are those of turn i, and `Kept`; `turned_next` and `turned_end` are its last two over a turn
+--                    and after the last one
 -- Assumes nothing.
-use mathlib.Core.Path.{◌≡◌, sym, ◌∙◌, ap}
+use mathlib.Core.Path.{◌≡◌, refl, sym, ◌∙◌, ap, ap₂}
 use mathlib.Core.List.{List}
 use Prim.Native.Nat.{ℕ, suc}
 use lib.Ieee.{Float}
-use lib.ListN.{length, get_or, length-set}
+use lib.ListN.{length, get_or, set, length-set}
 use Rattle.answer.specs.Given.{Given}
 use Rattle.arithmetic.specs.Arith.{ieee}
 use Rattle.coordinates.specs.declared.lonlat.LonLat.{LonLat}
@@ -57,3 +59,44 @@ module _ (table : List Float) (s : Set) (ps : List LonLat) (rs : List PlaceResul
   pub ended_at : (g : Given (Unit {0})) (n : ℕ) → Kept (S n) s rs → g ≡ check_list ieee table s (length ps) (length rs) → n ≡ turns_of g (length ps)
       → called g (S n).results (lent_at n) ≡ place_list_on ieee table s ps rs
   ended_at g n kept tested turns = ap (called g (S n).results) (framed (S n).set s.frame kept.frame) ∙ listed ieee table s ps rs g n tested turns
+
+  -- what the loop has once i positions are placed: both stores and the results are those of turn i
+  pub record Turned (i : ℕ) (faces spheres : List Float) (results : List PlaceResult) : Type 0 where
+    pub kept : Kept (S i) s rs
+    pub faces_are : faces ≡ (S i).set.faces
+    pub spheres_are : spheres ≡ (S i).set.spheres
+    pub results_are : results ≡ (S i).results
+
+  same_set : (i : ℕ) {faces spheres : List Float} → faces ≡ (S i).set.faces → spheres ≡ (S i).set.spheres → set_of s.frame faces spheres ≡ lent_at i
+  same_set i f p = ap₂ (λ (g h : List Float). set_of s.frame g h) f p
+
+  pub turned_next : (i : ℕ) (r : PlaceResult) {faces spheres faces' spheres' : List Float} {results : List PlaceResult} → Turned i faces spheres results
+      → step r (set_of s.frame faces' spheres') ≡ placed_one ieee table (set_of s.frame faces spheres) (position i)
+      → length faces' ≡ length faces → length spheres' ≡ length spheres → Turned (suc i) faces' spheres' (set results i r)
+  turned_next i r {faces} {spheres} {faces'} {spheres'} {results} at e long-faces long-spheres =
+      let same = same_set i at.faces_are at.spheres_are in
+      let now : Stepped i r (set_of s.frame faces' spheres') =
+      stepped i r (set_of s.frame faces' spheres') at.kept (e ∙ ap (λ (u : Set). placed_one ieee table u (position i)) same) in record {
+        kept = kept_next i r faces' spheres' at.kept now (long-faces ∙ ap length at.faces_are) (long-spheres ∙ ap length at.spheres_are);
+        faces_are = ap (λ (d : Step). d.set.faces) now;
+        spheres_are = ap (λ (d : Step). d.set.spheres) now;
+        results_are =
+            ap (λ (xs : List PlaceResult). set xs i r) at.results_are
+            ∙ ap (λ (d : Step). set (S i).results i d.result) now;
+      }
+
+  pub turned_end : (g : Given (Unit {0})) (n : ℕ) {faces spheres : List Float} {results : List PlaceResult} → Turned n faces spheres results
+      → g ≡ check_list ieee table s (length ps) (length rs) → n ≡ turns_of g (length ps)
+      → called g results (set_of s.frame faces spheres) ≡ place_list_on ieee table s ps rs
+  turned_end g n at tested turns =
+      ap₂ (called g) at.results_are (same_set n at.faces_are at.spheres_are) ∙ ended_at g n at.kept tested turns
+
+-- before the first turn
+pub not_turned : (table : List Float) (s : Set) (ps : List LonLat) (rs : List PlaceResult) → Turned table s ps rs 0 s.faces s.spheres rs
+not_turned table s ps rs =
+    record {
+      kept = record { frame = refl; faces = refl; spheres = refl; results = refl };
+      faces_are = refl;
+      spheres_are = refl;
+      results_are = refl;
+    }
