@@ -1,4 +1,3 @@
--- What the walks of `replay_lend_lists` and `replay_lend_regions` share.
-pub mod Lent
+-- What the proofs of `replay_lend_lists` and `replay_lend_regions` share.
 pub mod Results
 pub mod Points
