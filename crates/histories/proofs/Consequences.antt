@@ -2,7 +2,7 @@
 -- fills exactly two slots, or three if it is reflected; place, then show, gives the coordinates defined; and there is always a newly opened
 -- set to compare with. Assumes nothing.
 use mathlib.Core.Path.{◌≡◌, refl, sym, ap, ap₂, subst, ◌∙◌}
-use mathlib.Core.Bool.{Bool, true, false, not, cond, or-true, or_false, true≢false}
+use mathlib.Core.Bool.{Bool, true, false, not, cond, or-true, or-false, true≢false}
 use mathlib.Core.List.{List, [], ◌∷◌, ◌++◌}
 use Prim.Native.Nat.{ℕ, ◌+◌, ◌*◌}
 use lib.Dec.{eqb}
@@ -132,14 +132,14 @@ module _ (t : List Float) (b : Set) (ready : open_given ieee t b ≡ passed) (c 
   faces_filled : count FACE_SLOTS (λ k. filled (left t b (c ∷ [])).set.faces (k * FACE_WIDTH)) ≡ cond u.reflected 2 1
   faces_filled =
       count_same FACE_SLOTS _ (faces_at u.index u.reflected)
-      (λ k h. face_mark t b ready (c ∷ []) k h ∙ ap (λ (w : Since). w.faces k) one_since ∙ or_false (faces_at u.index u.reflected k))
+      (λ k h. face_mark t b ready (c ∷ []) k h ∙ ap (λ (w : Since). w.faces k) one_since ∙ or-false (faces_at u.index u.reflected k))
       ∙ count_faces u.index u.reflected on.index
 
   sphere_filled : count SPHERE_SLOTS (λ k. filled (left t b (c ∷ [])).set.spheres (k * SPHERE_WIDTH)) ≡ 1
   sphere_filled =
       let slot = sphere_slot u.origin u.index u.reflected in
       count_same SPHERE_SLOTS _ (λ k. eqb k slot)
-      (λ k h. sphere_mark t b ready (c ∷ []) k h ∙ ap (λ (w : Since). w.spheres k) one_since ∙ or_false (eqb k slot))
+      (λ k h. sphere_mark t b ready (c ∷ []) k h ∙ ap (λ (w : Since). w.spheres k) one_since ∙ or-false (eqb k slot))
       ∙ count_one SPHERE_SLOTS _ (sphere_below u.origin u.index u.reflected on.origin on.index)
 
   -- one face slot and one sphere slot, or two face slots and one sphere slot

@@ -1,6 +1,6 @@
 -- How many of a store's slots are among some: one slot is one, and the face slots of a call are one, or two if it is reflected. Assumes nothing.
 use mathlib.Core.Path.{◌≡◌, refl, ap, ap₂, ◌∙◌}
-use mathlib.Core.Bool.{Bool, true, false, cond, ◌||◌, or-true, or_false}
+use mathlib.Core.Bool.{Bool, true, false, cond, ◌||◌, or-true, or-false}
 use Prim.Native.Nat.{ℕ, zero, suc, ◌+◌, ◌<◌, ◌≤◌}
 use native.Mathlib.Decide.{ℕ_discrete}
 use native.Mathlib.Omega.{arith}
@@ -23,7 +23,7 @@ count_none (suc n) = count_none n
 -- one slot more, which is not yet among them
 module _ (u : Slots) (j : ℕ) (new : u j ≡ false) where
   count_below : (n : ℕ) → n ≤ j → count n (λ k. u k || eqb k j) ≡ count n u
-  count_below n h = count_same n _ u (λ k l. rw (ne_eqb k j (omega arith)) (or_false (u k)))
+  count_below n h = count_same n _ u (λ k l. rw (ne_eqb k j (omega arith)) (or-false (u k)))
 
   count_more : (n : ℕ) → j < n → count n (λ k. u k || eqb k j) ≡ suc (count n u)
   unfolding count
@@ -33,7 +33,7 @@ module _ (u : Slots) (j : ℕ) (new : u j ≡ false) where
       go : Dec (n ≡ j) → (j < n → count n (λ k. u k || eqb k j) ≡ suc (count n u))
           → cond (u n || eqb n j) (suc (count n (λ k. u k || eqb k j))) (count n (λ k. u k || eqb k j)) ≡ suc (cond (u n) (suc (count n u)) (count n u))
       go (yes e) before = rw (eq-eqb n j e, or-true, ap u e ∙ new) (ap suc (count_below n (omega arith)))
-      go (no ne) before = rw (ne_eqb n j ne, or_false, before (omega arith)) (both (u n))
+      go (no ne) before = rw (ne_eqb n j ne, or-false, before (omega arith)) (both (u n))
         where
           both : (b : Bool) → cond b (suc (suc (count n u))) (suc (count n u)) ≡ suc (cond b (suc (count n u)) (count n u))
           both true = refl

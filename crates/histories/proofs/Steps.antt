@@ -1,6 +1,6 @@
 -- One call keeps what holds of a set, by what it does to it; and so does every list of calls. Assumes nothing.
 use mathlib.Core.Path.{◌≡◌, refl, sym, ap, subst, ◌∙◌}
-use mathlib.Core.Bool.{Bool, true, false, ◌||◌, or_assoc, or_false}
+use mathlib.Core.Bool.{Bool, true, false, ◌||◌, or_assoc, or-false}
 use mathlib.Core.List.{List, [], ◌∷◌}
 use Prim.Native.Nat.{ℕ, suc, ◌+◌, ◌<◌}
 use native.Mathlib.Omega.{arith}
@@ -80,8 +80,8 @@ module _ (table : List Float) (w : Since) (s : Set) (good : Good table w s) wher
         frame = good.frame;
         face_long = a.0;
         sphere_long = b.0;
-        face = λ j h. rw (or_false (faces_at u.index u.reflected j)) (a.1 j h);
-        sphere = λ j h. rw (or_false (spheres_at u.origin u.index u.reflected j)) (b.1 j h);
+        face = λ j h. rw (or-false (faces_at u.index u.reflected j)) (a.1 j h);
+        sphere = λ j h. rw (or-false (spheres_at u.origin u.index u.reflected j)) (b.1 j h);
       }
 
 -- those of several, one after the other
@@ -93,8 +93,8 @@ all_good table [] w s good on =
       frame = good.frame;
       face_long = good.face_long;
       sphere_long = good.sphere_long;
-      face = λ k h. rw (or_false (w.faces k)) (good.face k h);
-      sphere = λ k h. rw (or_false (w.spheres k)) (good.sphere k h);
+      face = λ k h. rw (or-false (w.faces k)) (good.face k h);
+      sphere = λ k h. rw (or-false (w.spheres k)) (good.sphere k h);
     }
 all_good table (u ∷ us) w s good on =
     let one = used_good table w s good u on.0 in
@@ -112,7 +112,7 @@ all_good table (u ∷ us) w s good on =
     }
   where
     one_more : (a b c : Bool) (P : Bool → Type 0) → P ((a || (b || false)) || c) → P (a || (b || c))
-    one_more a b c P p = subst P (rw (or_false b) (or_assoc a b c)) p
+    one_more a b c P p = subst P (rw (or-false b) (or_assoc a b c)) p
 
 -- by what a call does to the set
 after_good : (s : Standing) (w : Since) → Good s.table w s.set → (e : Effect) → EffectOn s e

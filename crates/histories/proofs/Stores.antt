@@ -1,7 +1,7 @@
 -- A store of marked slots, over its width, how many slots it has and what is defined for each: all slots once one is written. Assumes
 -- nothing.
 use mathlib.Core.Path.{◌≡◌, refl, ap, ◌∙◌}
-use mathlib.Core.Bool.{Bool, true, false, cond, ◌||◌, or-true, or_false}
+use mathlib.Core.Bool.{Bool, true, false, cond, ◌||◌, or-true, or-false}
 use mathlib.Core.List.{List, ◌∷◌}
 use Prim.Native.Nat.{ℕ, zero, suc, ◌+◌, ◌*◌, ◌<◌, ◌≤◌}
 use native.Mathlib.Nat.{mul-le-mul_right}
@@ -68,4 +68,4 @@ module _ (w n : ℕ) (runs : ℕ → List Float) (u : Slots) (xs : List Float) (
     where
       go : Dec (j ≡ k) → slot_at w (slot_written w xs k (runs k)) j ≡ slot_of (u j || eqb j k) w (runs j)
       go (yes e) = rw (e, eq-eqb k k refl, or-true) written_slot
-      go (no ne) = rw (ne_eqb j k ne, or_false) (written_other w xs k (runs k) size fits j ne ∙ holds j h)
+      go (no ne) = rw (ne_eqb j k ne, or-false) (written_other w xs k (runs k) size fits j ne ∙ holds j h)

@@ -2,7 +2,7 @@
 -- Assumes nothing.
 use mathlib.Core.Path.{◌≡◌, refl, sym, ◌∙◌}
 use mathlib.Core.Logic.{◌⊎◌, inl, inr, ⊎_elim, ◌↔◌}
-use mathlib.Core.Bool.{Bool, true, false, cond, ◌||◌, or-true, or_false, false≢true}
+use mathlib.Core.Bool.{Bool, true, false, cond, ◌||◌, or-true, or-false, false≢true}
 use mathlib.Core.List.{List, [], ◌∷◌}
 use Prim.Native.Nat.{ℕ}
 use lib.Ieee.{Float}
@@ -27,9 +27,9 @@ module _ (pick : Since → Slots) (of : Given (List Used) → Slots) (k : ℕ) (
 
   next : (w : Since) (e : Effect) (s : Standing) → pick (counted w e s) k ≡ cond (is_opened e) false (pick w k || used e k)
   next w (writes table (answered u)) s = fresh s
-  next w (writes table (refused n)) s = sym (or_false (pick w k))
+  next w (writes table (refused n)) s = sym (or-false (pick w k))
   next w (uses g) s = adds w g s
-  next w reads s = sym (or_false (pick w k))
+  next w reads s = sym (or-false (pick w k))
 
   opens_none : (e : Effect) → used e k ≡ true → is_opened e ≡ false
   opens_none (writes table g) e = absurd (false≢true e)
@@ -59,6 +59,7 @@ module _ (pick : Since → Slots) (of : Given (List Used) → Slots) (k : ℕ) (
       to_told_before cs (counted w (effect s c) (step s c)) (step s c) (next w (effect s c) (step s c) ∙ rw (none.0, e)) none.1
 
   to_told : (cs : List Call) (w : Since) (s : Standing) → UsedLast used k s cs → pick (since w s cs) k ≡ true
+  to_told [] w s l = elim l [ ]
   to_told (c ∷ cs) w s (here e none) =
       let used-now : pick (counted w (effect s c) (step s c)) k ≡ true =
       next w (effect s c) (step s c) ∙ rw (opens_none (effect s c) e, e) (or-true (pick w k)) in
