@@ -1,5 +1,6 @@
 // The registers of the caption panel: what a block asks for, and how the end of a command is written to it.
 #![tactic(auto)]
+
 ghost use Rattle.std.specs.Prelude.{◌≡◌, length};
 ghost use Rattle.answer.specs.Answer.{given_check};
 ghost use Rattle.arithmetic.specs.Arith.{ieee};
