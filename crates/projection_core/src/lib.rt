@@ -1,6 +1,7 @@
 // Forward and inverse on a set that passes 1 to 4, on the origin that has the number id, without the
 // checks of their numbers. Nothing is written here.
 #![tactic(auto)]
+
 ghost use Rattle.std.specs.Prelude.{◌≡◌, false, ◌+◌, ◌*◌, ◌≤◌, length};
 ghost use Rattle.answer.specs.Given.{passed};
 ghost use Rattle.arithmetic.specs.Arith.{ieee};

@@ -1,4 +1,5 @@
 -- `take` meets its contract. Assumes nothing.
+-- `set_passes` says that the set passed 1 to 4.
 use mathlib.Core.Path.{◌≡◌, sym, ap, ◌∙◌}
 use Rattle.answer.specs.Answer.{given_check}
 use Rattle.answer.specs.Given.{passed}
