@@ -2,6 +2,7 @@
 // holds here too. A table is a pointer and a length in C: one that isn't 84 numbers long is refused with 20 before anything else
 // is tried, and the 84 numbers are then handed to the call by value.
 #![tactic(auto)]
+
 pub mod files;
 
 ghost use Rattle.std.specs.Prelude.{◌≡◌};
