@@ -1,2 +1,0 @@
--- What the walks of this crate share.
-pub mod Calls
