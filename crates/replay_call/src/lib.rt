@@ -1,5 +1,6 @@
 // A call that is lent the set, with its other arguments, the set that it leaves, and what it comes to, as an outcome.
 #![tactic(auto)]
+
 pub mod lists;
 mod mixed;
 pub mod nearby;
