@@ -1,5 +1,6 @@
 // The calls of long lists, drawn from a fixed seed, what is due after them, and the counts, for both programs that run such lists.
 #![tactic(auto)]
+
 pub mod counts;
 pub mod draw;
 pub mod slots;
