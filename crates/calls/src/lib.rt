@@ -1,6 +1,7 @@
 // Forward, inverse, place and unplace on a set, with the built-in table. A call checks its arguments, works its answer out,
 // looks at that, and only then writes the empty slots that it used.
 #![tactic(auto)]
+
 ghost use Rattle.std.specs.Prelude.{◌≡◌};
 ghost use Rattle.arithmetic.specs.Arith.{ieee};
 ghost use Rattle.coordinates.specs.Conversions.{given_face, given_spherical, given_lon_lat};
