@@ -1,6 +1,7 @@
 // Forward, inverse, place and unplace on a set, with a table of origins in place of the built-in one: its
 // numbers are tested by 21 and 22 right after 1, 2 and 3. Open with a table is `open_calls::open_with`.
 #![tactic(auto)]
+
 ghost use Rattle.std.specs.Prelude.{◌≡◌};
 ghost use Rattle.answer.specs.Given.{and_then};
 ghost use Rattle.answer.specs.Answer.{given_check};

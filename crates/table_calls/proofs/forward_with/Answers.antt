@@ -1,0 +1,15 @@
+-- `forward_with` meets its contract: it ends as its kind of call does, on slots that are there. Assumes nothing.
+use mathlib.Core.Path.{ap, ◌∙◌}
+use Rattle.arithmetic.specs.Arith.{ieee}
+use Rattle.dodecahedron.specs.Work.{answer_of}
+use Rattle.dodecahedron.proofs.Ended.{forward_there, left_there}
+use Rattle.table_calls.proofs.forward_with.Goals as goal
+
+pub returns : goal.returns
+returns c =
+    let worked = c.forward_work_with-work.ensures in
+    let leaves = c.leave_face.ensures in
+    record {
+      answer = leaves.answer ∙ ap answer_of worked;
+      left = leaves.left ∙ left_there ieee _ _ _ worked (forward_there ieee _ _ _ _);
+    }
