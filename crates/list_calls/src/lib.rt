@@ -3,6 +3,7 @@
 // and the results, is a thin loop over them. Crate place_list has the definitions, and crate table_lists the call with a table
 // of origins.
 #![tactic(auto)]
+
 ghost use Rattle.std.specs.Prelude.{◌≡◌};
 ghost use Rattle.answer.specs.Answer.{given_check};
 ghost use Rattle.arithmetic.specs.Arith.{ieee};
