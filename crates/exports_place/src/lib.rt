@@ -1,5 +1,6 @@
 // Place and unplace on a set as C functions. What crate exports says of pointers, lengths and answers holds here too.
 #![tactic(auto)]
+
 ghost use Rattle.arithmetic.specs.Arith.{ieee};
 ghost use Rattle.coordinates.specs.CoordinateTransforms.{face};
 ghost use Rattle.origin.specs.Origins.{ORIGINS};
