@@ -2,7 +2,7 @@
 --     same_call    the work on the copied positions is the work on the positions: they are the same, or there are more than 256, and then the call
 --                  is refused before it looks at them
 --     all_written  what is written out is what the call leaves in the points, whether it is refused or not
---     regioned     both, as the walks need it
+--     regioned     both, as `region` and `region_with` need it
 -- Assumes nothing.
 use mathlib.Core.Path.{◌≡◌, refl, sym, ◌∙◌, ap}
 use Prim.Native.Nat.{ℕ, ◌<◌, ◌≤◌, min}

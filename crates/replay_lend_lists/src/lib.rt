@@ -1,5 +1,5 @@
-// Positions and results lent to `place_list` and `place_list_with`. A slice of structs is lent by a walk of the code by hand, so the functions
-// that lend have no more than that: the arrays come and go by value, and what is made of them is made elsewhere.
+// Positions and results lent to `place_list` and `place_list_with`. The functions that lend have no more than that: the arrays come and go by
+// value, and what is made of them is made elsewhere.
 #![tactic(auto)]
 ghost use Rattle.std.specs.Prelude.{◌≡◌, ◌≤◌};
 ghost use Rattle.arithmetic.specs.Arith.{ieee};
