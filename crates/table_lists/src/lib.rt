@@ -1,6 +1,7 @@
 // Radar lists with a table of origins in place of the built-in one (document 02, Papers 1 and 10). Results, counts and turns
 // are crate list_parts's; the table's numbers are tested by 21 and 22, after 3 and before 14, before any position is placed.
 #![tactic(auto)]
+
 ghost use Rattle.std.specs.Prelude.{◌≡◌};
 ghost use Rattle.answer.specs.Answer.{given_check};
 ghost use Rattle.arithmetic.specs.Arith.{ieee};
