@@ -1,6 +1,7 @@
 // Forward and inverse on a set, with a table, as C functions. What crates exports and exports_tables say of pointers, lengths,
 // answers and tables holds here too.
 #![tactic(auto)]
+
 ghost use Rattle.arithmetic.specs.Arith.{ieee};
 ghost use Rattle.coordinates.specs.CoordinateTransforms.{face};
 ghost use Rattle.set.specs.Outcome.{lent};
