@@ -1,5 +1,6 @@
 // A step of the caption panel on a set, with a table of origins in place of the built-in one.
 #![tactic(auto)]
+
 ghost use Rattle.std.specs.Prelude.{◌≡◌, length};
 ghost use Rattle.answer.specs.Answer.{given_check};
 ghost use Rattle.arithmetic.specs.Arith.{ieee};
