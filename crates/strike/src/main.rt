@@ -2,17 +2,22 @@
 // A write that fails ends the program.
 #![tactic(auto)]
 
-ghost use Rattle.std.specs.Prelude.{◌≡◌, ◌≤◌, length};
+ghost use Rattle.std.specs.Prelude.{◌≡◌, ◌≤◌, false, length};
+ghost use Rattle.std.specs.Io.KnownBytes.{Appends};
+ghost use Rattle.arithmetic.specs.Arith.{ieee};
+ghost use Rattle.origin.specs.Origins.{ORIGINS};
 ghost use Rattle.set.specs.Outcome.{lent, lent_mut};
-ghost use Rattle.strike_reads.specs.Steps.{Begins, Roomy, state_of, begun, Ended};
+ghost use Rattle.strike_reads.specs.Steps.{Begins, Roomy, state_of, begun, Ended, Passes, bytes_of, lines_of};
+ghost use Rattle.strike_session.specs.Session.{program};
 
 use set::sizes::{FACE_STORE, FRAME, SPHERE_STORE};
 use std::io::{Read, Write};
 use strike_input::read_all;
 use strike_session::session::{Stage, begin, finish};
+use strike_step::loses;
 
 // A session behind all its reads: where it stands, how many bytes of the buffer were not taken, how
-// many bytes its last line has, and whether lines before it are lost.
+// many bytes its last line has, and whether lines are lost because a write failed.
 #[derive(Clone, Copy)]
 struct Last {
     stage: Stage,
@@ -33,10 +38,12 @@ fn answer_all<R: Read, W: Write>(
     out: &mut [u8],
 ) -> Last
     requires { Begins stage × Roomy buffer.old out.old }
-    ensures ends { Ended (length buffer.old) (length out.old)
+    ensures ends { (e : Ended (length buffer.old) (length out.old)
         (state_of stage 0 (lent frame face_store sphere_store).entry buffer.old)
         (state_of result.stage result.kept (lent frame face_store sphere_store).exit buffer.new)
-        result.written out.new }
+        result.written out.new)
+        × Passes (R.remaining from.old) (R.remaining from.new) (W.contents to.old) (W.contents to.new)
+        (bytes_of e.read) (lines_of e.read) result.lost }
     ensures held { result.written ≤ length out.new }
 {
     let at = read_all(
@@ -59,8 +66,17 @@ fn answer_all<R: Read, W: Write>(
     }
 }
 
-// A whole session on any set. Where open refuses there is one line, and the session is over: so it does
-// not matter whether that line is written. After a write that failed nothing more is written.
+// Writes the last line, where no lines before it are lost. Whether any are lost then.
+fn ends_lost<W: Write>(to: &mut W, lost: bool, line: &[u8]) -> bool
+    ensures before { result ≡ false → lost ≡ false }
+    ensures line { result ≡ false → Appends (W.contents to.old) (W.contents to.new) line.now }
+{
+    lost || loses(to, line)
+}
+
+// A whole session on any set. However its bytes arrive, its lines are those of a session with all of them in a row, if none are
+// lost. Where open refuses there is one line, and the session is over: so it does not matter whether that line is written. After
+// a write that failed nothing more is written.
 fn run<R: Read, W: Write>(
     from: &mut R,
     to: &mut W,
@@ -71,14 +87,16 @@ fn run<R: Read, W: Write>(
     out: &mut [u8],
 ) -> Last
     requires { Roomy buffer.old out.old }
-    ensures { Ended (length buffer.old) (length out.old)
+    ensures { (e : Ended (length buffer.old) (length out.old)
         (begun (lent_mut frame face_store sphere_store).entry)
         (state_of result.stage result.kept (lent_mut frame face_store sphere_store).exit buffer.new)
-        result.written out.new }
+        result.written out.new)
+        × Passes (R.remaining from.old) (R.remaining from.new) (W.contents to.old) (W.contents to.new)
+        (bytes_of e.read) (program ieee ORIGINS (lent_mut frame face_store sphere_store).entry (bytes_of e.read)) result.lost }
 {
     let begun = begin(frame, face_store, sphere_store, out);
     let stage = begun.stage;
-    let _ = to.write_all(&out[..begun.written]);
+    let unbegun = loses(to, &out[..begun.written]);
     let last = answer_all(
         from,
         to,
@@ -89,10 +107,13 @@ fn run<R: Read, W: Write>(
         buffer,
         out,
     );
-    if !last.lost {
-        let _ = to.write_all(&out[..last.written]);
+    let unended = ends_lost(to, last.lost, &out[..last.written]);
+    Last {
+        stage: last.stage,
+        kept: last.kept,
+        written: last.written,
+        lost: unbegun | unended,
     }
-    last
 }
 
 // As many zeros as one read brings bytes at most.

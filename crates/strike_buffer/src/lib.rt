@@ -1,5 +1,6 @@
 // The strike program's feeding from a buffer: the bytes that are not taken yet move to its start.
 #![tactic(auto)]
+
 ghost use Rattle.std.specs.Prelude.{◌≤◌, length};
 ghost use Rattle.set.specs.Outcome.{lent};
 ghost use Rattle.strike_records.specs.Writes.{Writes, lent_bytes};

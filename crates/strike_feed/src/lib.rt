@@ -1,6 +1,7 @@
 // The strike program's feeding: the header and whole records of a session, as many as have arrived and there is room for
 // (document 01, "The strike program").
 #![tactic(auto)]
+
 ghost use Rattle.std.specs.Prelude.{◌≡◌, ◌≤◌, min, length};
 ghost use Rattle.arithmetic.specs.Arith.{ieee};
 ghost use Rattle.origin.specs.Origins.{ORIGINS};

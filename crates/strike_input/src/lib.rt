@@ -3,7 +3,7 @@
 
 ghost use Rattle.std.specs.Prelude.{◌≡◌, true, ◌≤◌, length};
 ghost use Rattle.set.specs.Outcome.{lent};
-ghost use Rattle.strike_reads.specs.Steps.{Begins, Roomy, state_of, Read};
+ghost use Rattle.strike_reads.specs.Steps.{Begins, Roomy, state_of, Read, Passes, bytes_of, lines_of};
 
 use std::io::{Read, Write};
 use strike_session::session::Stage;
@@ -24,9 +24,11 @@ pub fn read_all<R: Read, W: Write>(
 ) -> Standing
     requires { Begins stage × Roomy buffer.old out.old }
     ensures ended { result.ended ≡ true }
-    ensures read { Read (length buffer.old) (length out.old)
+    ensures read { (r : Read (length buffer.old) (length out.old)
         (state_of stage 0 (lent frame face_store sphere_store).entry buffer.old)
-        (state_of result.stage result.kept (lent frame face_store sphere_store).exit buffer.new) }
+        (state_of result.stage result.kept (lent frame face_store sphere_store).exit buffer.new))
+        × Passes (R.remaining from.old) (R.remaining from.new) (W.contents to.old) (W.contents to.new)
+        (bytes_of r) (lines_of r) result.lost }
     ensures held { result.kept ≤ length buffer.new }
 {
     let mut at = Standing {

@@ -73,6 +73,15 @@ module _ (stage : Stage) (s₀ s₁ : Set) (kept n : ℕ) (buffer₀ buffer buff
   pub lines_are : out ≡ put before 0 (given (length before) from (arrived kept n buffer)).lines
   lines_are = fed-from.lines.now_is ∙ ap (λ (f : Fed). put before 0 f.lines) same_fed
 
+  pub lines_first : take result.written out ≡ (given (length before) from (arrived kept n buffer)).lines
+  lines_first =
+      let lines = (feeding (take (kept + n) buffer)).lines in
+      let written = fed-from.lines in
+      ap (λ (k : ℕ). take k out) (written.end_is ∙ zero-add (length lines))
+      ∙ ap (take (length lines)) written.now_is
+      ∙ put_start before lines
+      ∙ ap (λ (f : Fed). f.lines) same_fed
+
 -- ---- the session's ends
 
 pub begins : (stage : Stage) (given : Given (Unit {0})) → stage ≡ begin_stage given → Begins stage

@@ -1,5 +1,7 @@
 -- The strike program between two reads, and what its reads come to, for whatever bytes they brought. Definitions only.
 use Rattle.std.specs.Prelude.{ℕ, ◌+◌, ◌*◌, ◌/◌, ◌≤◌, ◌<◌, ◌≡◌, Bool, true, false, List, [], ◌++◌, length, take, drop}
+use Rattle.std.specs.declared.option.Option.{Option}
+use Rattle.std.specs.Io.KnownBytes.{Consumes, Appends}
 use Rattle.arithmetic.specs.Arith.{ieee}
 use Rattle.origin.specs.Origins.{ORIGINS}
 use Rattle.set.specs.Set.{Set}
@@ -62,11 +64,30 @@ pub record Ended (space room : ℕ) (s last : State) (written : ℕ) (out : List
   pub written_is : written ≡ length (end_line last.stage (length last.kept))
   pub line_is : take written out ≡ end_line last.stage (length last.kept)
 
+-- What a step or all reads do to a reader's and a writer's bytes, where those are known: the bytes that arrived are what the reader loses at its start,
+-- and where no lines are lost, the lines are what the writer gains.
+pub record Passes (unread unread' written written' : Option (List ℕ)) (arrived lines : List ℕ) (lost : Bool) : Type 0 where
+  pub taken : Consumes unread unread' arrived
+  pub given : lost ≡ false → Appends written written' lines
+
 -- where a session begins on a set that held anything: what open gives, the set after it, and no bytes
 abbrev pub begun : Set → State
 begun s =
     let opened = open_on ieee ORIGINS s in
     record { stage = begin_stage opened.answer; set = opened.set; kept = [] }
+
+-- ---- one step
+
+module _ {space : ℕ} {s t : State} {before out : List ℕ} where
+  -- the bytes that arrived in a step
+  abbrev pub step_bytes : {ended lost : Bool} → Stepped space s t before out ended lost → List ℕ
+  step_bytes (rests e o) = []
+  step_bytes (feeds arrived some fits on is lines l) = arrived
+
+  -- the lines that it gives for them
+  abbrev pub step_lines : {ended lost : Bool} → Stepped space s t before out ended lost → List ℕ
+  step_lines (rests e o) = []
+  step_lines (feeds arrived some fits on is lines l) = (given (length before) s arrived).lines
 
 -- ---- all reads together
 

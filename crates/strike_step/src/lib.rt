@@ -4,7 +4,8 @@
 
 ghost use Rattle.std.specs.Prelude.{◌≡◌, false, ◌≤◌, ◌<◌, length};
 ghost use Rattle.set.specs.Outcome.{lent};
-ghost use Rattle.strike_reads.specs.Steps.{state_of, Stepped};
+ghost use Rattle.std.specs.Io.KnownBytes.{Appends};
+ghost use Rattle.strike_reads.specs.Steps.{state_of, Stepped, Passes, step_bytes, step_lines};
 ghost use Rattle.strike_session.specs.Pieces.{over};
 
 use std::io::{Read, Write};
@@ -22,6 +23,13 @@ pub struct Standing {
     pub lost: bool,
 }
 
+// Writes lines. Whether the write failed, and lines are lost.
+pub fn loses<W: Write>(to: &mut W, lines: &[u8]) -> bool
+    ensures { result ≡ false → Appends (W.contents to.old) (W.contents to.new) lines.now }
+{
+    to.write_all(lines).is_err()
+}
+
 // One read, and the lines of what has arrived then.
 pub fn step<R: Read, W: Write>(
     from: &mut R,
@@ -34,10 +42,12 @@ pub fn step<R: Read, W: Write>(
     out: &mut [u8],
 ) -> Standing
     requires { (over at.stage ≡ false → at.kept < length buffer.old) × (at.kept ≤ length buffer.old) }
-    ensures stepped { Stepped (length buffer.old)
+    ensures stepped { (p : Stepped (length buffer.old)
         (state_of at.stage at.kept (lent frame face_store sphere_store).entry buffer.old)
         (state_of result.stage result.kept (lent frame face_store sphere_store).exit buffer.new)
-        out.old out.new result.ended result.lost }
+        out.old out.new result.ended result.lost)
+        × Passes (R.remaining from.old) (R.remaining from.new) (W.contents to.old) (W.contents to.new)
+        (step_bytes p) (step_lines p) result.lost }
     ensures held { result.kept ≤ length buffer.new }
 {
     let stage = at.stage;
@@ -68,7 +78,7 @@ pub fn step<R: Read, W: Write>(
         kept + n,
         out,
     );
-    let lost = to.write_all(&out[..turn.written]).is_err();
+    let lost = loses(to, &out[..turn.written]);
     let next = turn.stage;
     Standing {
         stage: next,

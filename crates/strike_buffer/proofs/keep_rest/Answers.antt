@@ -1,25 +1,15 @@
 -- `keep_rest` meets its contract. The loop's invariant: the first i bytes are the first of what is left over, and the others
 -- are as they were. The measure is the bytes still to be moved. Assumes nothing.
-use mathlib.Core.Path.{◌≡◌, refl, sym, ap, ◌∙◌}
+use mathlib.Core.Path.{◌≡◌, sym, ap, ◌∙◌}
 use mathlib.Core.List.{List, ◌++◌}
-use Prim.Native.Nat.{ℕ, ◌+◌, ◌-◌, ◌<◌, ◌≤◌, min, zero-le}
+use Prim.Native.Nat.{ℕ, ◌+◌, ◌-◌, ◌<◌, min}
 use native.Mathlib.Omega.{arith}
-use borrow.Author.Rules.{rules}
 use lib.ListN.{length, get_or, take, drop, length-take, length-drop, set, length-set}
 use lib.Seq.{take_all, get_or-take, get_or-drop, get_or-append-add, length-take-le}
 use Rattle.stores.specs.Slots.{put}
 use Rattle.set.proofs.Overwrite.{over, store}
 use Rattle.strike_session.specs.Pieces.{left_over}
-use Rattle.strike_buffer.proofs.keep_rest.Statement.{statement}
-use Rattle.strike_buffer.proofs.keep_rest.Tie as tie
-
-abbrev invariant-loop : tie.invariant-loop
-invariant-loop buffer₀ taken filled end from₀ i₀ buffer from i =
-    let rest = left_over buffer₀ taken filled in
-    (from ≡ taken + i) × (i ≤ length rest) × (length buffer ≡ length buffer₀) × (buffer ≡ over rest buffer₀ i)
-
-abbrev decreases-loop : tie.decreases-loop
-decreases-loop buffer₀ taken filled end from₀ i₀ buffer from i = end - from
+use Rattle.strike_buffer.proofs.keep_rest.Goals as goal
 
 left_length : (b : List ℕ) (taken filled : ℕ) → length (left_over b taken filled) ≡ min filled (length b) - taken
 left_length b taken filled = simp (length-drop, length-take)
@@ -38,20 +28,14 @@ next b taken filled i h =
     swapped : taken + i ≡ i + taken
     swapped = omega arith
 
-loop-holds : tie.Need-loop-init invariant-loop decreases-loop
-loop-holds c = (omega arith, zero-le, refl, refl)
-
-loop-again : tie.Need-loop-preserved invariant-loop decreases-loop
-loop-again c =
-    let at-loop = c.before.before in
-    let at_least_lem = at-loop.before in
-    let entry = at_least_lem.before.before in
-    let a = entry.args in
-    let l = at-loop.loop in
+pub loop-from-preserved : goal.loop-from-preserved
+loop-from-preserved c =
+    let a = c.args in
+    let l = c.loop-from in
     let b = a.buffer.now in
     let rest = left_over b a.taken a.filled in
     let long = left_length b a.taken a.filled in
-    let more : l.i < length rest = omega (arith, long, at_least_lem.least.ensures) in
+    let more : l.i < length rest = omega (arith, long, c.least-end.ensures) in
     let byte : get_or l.buffer l.from 0 ≡ get_or rest l.i 0 =
     ap (λ (x : List ℕ). get_or x l.from 0) l.invariant.3
     ∙ ap (λ (k : ℕ). get_or (over rest b l.i) k 0) l.invariant.0
@@ -64,37 +48,14 @@ loop-again c =
       ap (set l.buffer l.i) byte ∙ moved ∙ store rest b l.i 0 more (omega (arith, more, long)),
     )
 
-returns : tie.Need-returns invariant-loop decreases-loop
+pub returns : goal.returns
 unfolding put
 returns c =
-    let at-loop = c.before in
-    let at_least_lem = at-loop.before in
-    let entry = at_least_lem.before.before in
-    let a = entry.args in
-    let l = at-loop.loop in
+    let a = c.args in
+    let l = c.loop-from in
     let b = a.buffer.now in
     let rest = left_over b a.taken a.filled in
     let long = left_length b a.taken a.filled in
-    let all : l.i ≡ length rest = omega (arith, long, at_least_lem.least.ensures) in
+    let all : l.i ≡ length rest = omega (arith, long, c.least-end.ensures) in
     let whole = ap (λ (x : List ℕ). x ++ drop (length rest) b) (take_all (length rest) rest (omega arith)) in
-    (record { end_is = omega (arith, all); now_is = l.invariant.3 ∙ ap (over rest b) all ∙ whole }, omega (arith, long, all))
-
-same_length : tie.Need-same-length invariant-loop decreases-loop
-same_length c = c.before.loop.invariant.2
-
-pub keep_rest_spec : {M : Type 1} → statement M
-keep_rest_spec =
-    tie.close
-    (tie.spec
-    invariant-loop
-    decreases-loop
-    (λ c κs. search rules)
-    loop-holds
-    (λ c. search rules)
-    (λ c. search rules)
-    (λ c. search rules)
-    (λ c. search rules)
-    (λ c. search rules)
-    loop-again
-    same_length
-    returns)
+    record { rest = record { end_is = omega (arith, all); now_is = l.invariant.3 ∙ ap (over rest b) all ∙ whole }; within = omega (arith, long, all) }

@@ -1,0 +1,23 @@
+-- `feed_records` meets its contract. Assumes nothing.
+use mathlib.Core.Path.{◌≡◌, refl, ap, ◌∙◌}
+use Prim.Native.Nat.{min}
+use lib.ListN.{length}
+use Rattle.arithmetic.specs.Arith.{ieee}
+use Rattle.origin.specs.Origins.{ORIGINS}
+use Rattle.set.specs.Set.{Set, set_of}
+use Rattle.strike_session.specs.Pieces.{answerable, Fed, records_fed}
+use Rattle.strike_session.proofs.Results.{feeds_as}
+use Rattle.strike_feed.proofs.feed_records.Goals as goal
+
+pub returns : goal.returns
+unfolding records_fed
+returns c =
+    let a = c.args in
+    let s = set_of a.frame.now a.face_store.now a.sphere_store.now in
+    let least = c.least.ensures in
+    let count : c.least-count.result ≡ answerable a.left a.input.now (length a.out.now) =
+    c.least-count.ensures ∙ ap (min a.left) least in
+    let answered = c.answer_records-written.ensures in
+    let fed : Set → Fed = λ t. records_fed ieee ORIGINS a.header a.left t a.input.now c.least-count.result in
+    feeds_as {f = fed} _ (ap (records_fed ieee ORIGINS a.header a.left s a.input.now) count)
+    (record { stage_is = refl; taken_is = refl; lines = answered.lines; left = answered.left })
