@@ -6,8 +6,7 @@ use lib.Dec.{eqb, ltb}
 use borrow.Author.Tests.{eq-eqb, ne_eqb, lt-ltb, le-ltb}
 use Rattle.answer.specs.Given.{refused, passed}
 use Rattle.region_work.specs.Region.{check_positions}
-use Rattle.region_core.proofs.work.check_positions.Statement.{statement}
-use Rattle.region_core.proofs.work.check_positions.Tie as tie
+use Rattle.region_core.proofs.work.check_positions.Goals as goal
 
 module _ (n : ℕ) where
   none : eqb n 0 ≡ true → check_positions n ≡ refused 15
@@ -22,18 +21,15 @@ module _ (n : ℕ) where
   unfolding check_positions
   some e f = rw (e, f)
 
-returns : tie.Need-returns
-returns c = sym (none c.before.args.n (eq-eqb _ _ c.if1.true))
+pub returns-then-n-eq0 : goal.returns-then-n-eq0
+returns-then-n-eq0 c = sym (none c.args.n (eq-eqb _ _ c.if-n-eq0.true))
 
-returns-2 : tie.Need-returns-2
-returns-2 c =
-    let n = c.before.before.args.n in
-    sym (too_many n (ne_eqb _ _ c.before.if1.false) (lt-ltb 256 n c.if2.true))
+pub returns-then-n-gt256 : goal.returns-then-n-gt256
+returns-then-n-gt256 c =
+    let n = c.args.n in
+    sym (too_many n (ne_eqb _ _ c.if-n-eq0.false) (lt-ltb 256 n c.if-n-gt256.true))
 
-returns-3 : tie.Need-returns-3
-returns-3 c =
-    let n = c.before.before.args.n in
-    sym (some n (ne_eqb _ _ c.before.if1.false) (le-ltb 256 n c.if2.false))
-
-pub check_positions_spec : {M : Type 1} → statement M
-check_positions_spec = tie.close (tie.spec returns returns-2 returns-3)
+pub returns : goal.returns
+returns c =
+    let n = c.args.n in
+    sym (some n (ne_eqb _ _ c.if-n-eq0.false) (le-ltb 256 n c.if-n-gt256.false))
