@@ -2,6 +2,7 @@
 // library, and what is said there of pointers and lengths holds here too. A position and a result are the structs that
 // bindings/a5.h has as a5_position and a5_result.
 #![tactic(auto)]
+
 pub mod tables;
 
 ghost use Rattle.std.specs.Prelude.{◌≡◌};
