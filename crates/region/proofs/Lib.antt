@@ -1,3 +1,2 @@
--- What the walks of this crate share.
-pub mod Calls
+-- What the proofs of both functions share.
 pub mod Whole

@@ -1,6 +1,7 @@
 // A region on one face (document 02, Paper 4), on lent slices: crate region_copies copies the positions in and the points out, and
 // crate region_core works the region out.
 #![tactic(auto)]
+
 ghost use Rattle.std.specs.Prelude.{◌≡◌};
 ghost use Rattle.arithmetic.specs.Arith.{ieee};
 ghost use Rattle.origin.specs.Origins.{ORIGINS};
