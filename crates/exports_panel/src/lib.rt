@@ -2,6 +2,7 @@
 // crate exports_tables. Crate exports has the calls on a set; these go into the same library, and what is said there of pointers
 // and lengths holds here too.
 #![tactic(auto)]
+
 ghost use Rattle.arithmetic.specs.Arith.{ieee};
 ghost use Rattle.origin.specs.Origins.{ORIGINS};
 ghost use Rattle.set.specs.Outcome.{lent};
