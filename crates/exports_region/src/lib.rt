@@ -3,6 +3,7 @@
 // and lengths holds here too. A position, a point and a box are the structs that bindings/a5.h has as a5_position, a5_point and
 // a5_box.
 #![tactic(auto)]
+
 ghost use Rattle.std.specs.Prelude.{◌≡◌};
 ghost use Rattle.arithmetic.specs.Arith.{ieee};
 ghost use Rattle.origin.specs.Origins.{ORIGINS};

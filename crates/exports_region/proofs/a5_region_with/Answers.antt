@@ -9,7 +9,7 @@ use Rattle.exports_region.proofs.a5_region_with.Goals as goal
 
 pub returns-then-table-ne84 : goal.returns-then-table-ne84
 returns-then-table-ne84 c =
-    ap (λ (r : RegionCalled). in_c r _ _) (sym (other_length _ _ _ _ _ (ne_eqb _ _ c.if-table-ne84.true)))
+    ap (λ (r : RegionCalled). in_c r c.args.origin.now c.args.caption.now) (sym (other_length _ _ _ _ _ (ne_eqb _ _ c.if-table-ne84.true)))
 
 pub returns : goal.returns
 returns c =
