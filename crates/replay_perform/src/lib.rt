@@ -1,5 +1,6 @@
 // What a call comes to on a set with the built-in table.
 #![tactic(auto)]
+
 mod lists;
 mod regions;
 mod steps;
