@@ -3,8 +3,8 @@
 use open_calls::open;
 use replay::outcome::Outcome;
 use replay_call::Call;
-use replay_draw::slots::{part, state};
 use replay_draw::both_stores::{clear, gather};
+use replay_draw::slots::{part, state};
 use replay_perform::perform;
 use set::sizes::{FACE_STORE, FRAME, SPHERE_STORE};
 

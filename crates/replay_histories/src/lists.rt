@@ -3,9 +3,9 @@ use crate::counts::count_outcome;
 use crate::due::expected;
 use open_calls::open;
 use replay_call::Call;
+use replay_draw::both_stores::alike;
 use replay_draw::counts::count;
 use replay_draw::draw::draw;
-use replay_draw::both_stores::alike;
 use replay_perform::perform;
 use set::sizes::{FACE_STORE, FRAME, SPHERE_STORE};
 

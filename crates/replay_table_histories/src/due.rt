@@ -3,8 +3,8 @@
 use open_calls::open_with;
 use replay::outcome::Outcome;
 use replay_call::{Call, of_open};
-use replay_draw::slots::{part, state};
 use replay_draw::both_stores::{clear, gather};
+use replay_draw::slots::{part, state};
 use replay_table_perform::perform_with;
 use set::sizes::{FACE_STORE, FRAME, SPHERE_STORE};
 

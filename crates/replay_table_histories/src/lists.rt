@@ -6,9 +6,9 @@ use crate::tables;
 use open_calls::open;
 use origin::origin::built_in;
 use replay_call::Call;
+use replay_draw::both_stores::alike;
 use replay_draw::counts::count;
 use replay_draw::draw::draw;
-use replay_draw::both_stores::alike;
 use replay_table_perform::perform_with;
 use set::sizes::{FACE_STORE, FRAME, SPHERE_STORE};
 
