@@ -1,5 +1,6 @@
 // What a call comes to on a set with a table: crate `replay_call`'s calls, as the calls with a table.
 #![tactic(auto)]
+
 mod lists;
 mod regions;
 mod steps;
