@@ -1,6 +1,7 @@
 // Positions and points lent to `region` and `region_with`. The functions that lend have no more than that: the arrays come and go by value,
 // and what is made of them is made elsewhere.
 #![tactic(auto)]
+
 ghost use Rattle.std.specs.Prelude.{◌≡◌, ◌≤◌};
 ghost use Rattle.arithmetic.specs.Arith.{ieee};
 ghost use Rattle.origin.specs.Origins.{ORIGINS};
