@@ -150,11 +150,6 @@ module _ (t : List Float) (b : Set) (ready : open_given ieee t b ≡ passed) (c 
       go true = refl
       go false = refl
 
-pub one_unplace : (t : List Float) (b : Set) → open_given ieee t b ≡ passed → (f : Face) (o : ℕ) (w : Work LonLat)
-    → unplace_given ieee (opened t b).table (opened t b).set f o ≡ answered w
-    → filled_slots (left t b (unplaces f o ∷ [])).set ≡ cond w.used.reflected 3 2
-one_unplace t b ready f o w e = one_call t b ready (unplaces f o) w.used (ap (λ (g : Given (Work LonLat)). uses (alone (used_of g))) e)
-
 -- ---- place, then show
 
 since_then : (w : Since) (s : Standing) (cs ds : List Call) → since w s (cs ++ ds) ≡ since (since w s cs) (run s cs) ds

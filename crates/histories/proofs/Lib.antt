@@ -11,6 +11,7 @@ pub mod Theorem
 pub mod Shown
 pub mod Counts
 pub mod Consequences
+pub mod OneUnplace
 pub mod SineArguments
 pub mod BuiltIn
 pub mod Left
