@@ -1,5 +1,5 @@
 -- What the tests of a call with a table tell where they passed: the set's lengths, the table's numbers, and the origin. Assumes nothing.
-use mathlib.Core.Path.{◌≡◌}
+use mathlib.Core.Path.{◌≡◌, sym, ◌∙◌}
 use mathlib.Core.Bool.{true, false}
 use mathlib.Core.List.{List}
 use Prim.Native.Nat.{ℕ, ◌<◌}
@@ -9,9 +9,12 @@ use Rattle.answer.proofs.Given.{then_answered}
 use Rattle.arithmetic.specs.Arith.{ieee}
 use Rattle.elementary.specs.Sine.{beyond}
 use Rattle.coordinates.specs.Constants.{8·0}
+use Rattle.coordinates.specs.declared.spherical.Spherical.{Spherical}
 use Rattle.origin.specs.Origins.{origin_at}
 use Rattle.origin.specs.Table.{numbers_sound}
 use Rattle.origin.proofs.Sizes.{sound_small, small_angle}
+use Rattle.nearest.specs.Nearest.{nearest_origin}
+use Rattle.nearest.proofs.LowestNearest.{nearest_is}
 use Rattle.set.specs.Set.{Set}
 use Rattle.set.specs.Checks.{check_origin, check_call, check_with}
 use Rattle.set.proofs.Lengths.{Fits, with_passed, origin_passed, call_passes}
@@ -36,9 +39,17 @@ module _ (table : List Float) (s : Set) (o : ℕ) where
         angle = small_angle (origin_at table o) (sound_small table known.1 o h);
       }
 
+  -- the nearest of a table's origins, where the table passed
+  pub nearest_passed : (p : Spherical) → check_with ieee table s ≡ passed → o ≡ nearest_origin ieee table p → Passed table s o
+  nearest_passed p e is = with_origin e (rw is (nearest_is ieee table p).origin)
+
   -- the tests of a call on an origin, and then the call's own
   pub on_origin : (own : Given (Unit {0})) → and_then (tests_on ieee table s o) own ≡ passed → Passed table s o × (own ≡ passed)
   on_origin own e =
       let both = then_answered (tests_on ieee table s o) own tt e in
       let tests = then_answered (check_with ieee table s) (check_origin o) tt both.0 in
       (with_origin tests.0 (origin_passed o tests.1), both.1)
+
+-- the tests of a call and then its own, by what the code's three steps gave
+pub tested : {tests own m n r g : Given (Unit {0})} → m ≡ tests → n ≡ own → r ≡ and_then m n → r ≡ g → and_then tests own ≡ g
+tested em en er e = rw (sym em, sym en) (sym er ∙ e)
