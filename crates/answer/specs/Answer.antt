@@ -1,10 +1,8 @@
 -- The number of each refusal (document 01, "Calls and their numbers", and document 02), and what a check gives. Definitions only.
-use Rattle.std.specs.Prelude.{ℕ}
-use Rattle.answer.specs.Given.{Given, refused, passed}
+use Rattle.std.specs.Prelude.{ℕ, Result, Ok, Err}
+use Rattle.answer.specs.Given.{Given, answered, refused}
 use Rattle.answer.specs.declared.Refusal.{Refusal}
 use Rattle.answer.specs.declared.Refusal.TheVariants as refusal
-use Rattle.answer.specs.declared.Check.{Check}
-use Rattle.answer.specs.declared.Check.TheVariants as check
 
 -- document 01's table, row by row
 abbrev pub number_of : Refusal → ℕ
@@ -61,7 +59,7 @@ number_of refusal.GrantCount = 25
 -- Paper 13: "the lent page isn't 4,860 bytes"
 number_of refusal.PageLength = 26
 
--- a check, or a call that carries no value: passed, or the number of its refusal
-abbrev pub given_check : Check → Given (Unit {0})
-given_check check.Passed = passed
-given_check (check.Refused n) = refused (number_of n)
+-- what a function returned: its value, or the number of its refusal
+abbrev pub given : {A : Type 0} → Result A Refusal → Given A
+given (Ok a) = answered a
+given (Err r) = refused (number_of r)

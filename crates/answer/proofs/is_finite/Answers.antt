@@ -1,5 +1,5 @@
 -- `is_finite` meets its contract: by cases on the value. Assumes nothing.
-use mathlib.Core.Path.{◌≡◌, refl, sym}
+use mathlib.Core.Path.{◌≡◌, refl, sym, ◌∙◌}
 use mathlib.Core.Bool.{true, false}
 use lib.Ieee.{Float, nan, inf, fin, lt, neg, of_bits, binary64, nan_bits}
 use Rattle.answer.specs.Number.{is_finite}
@@ -30,4 +30,4 @@ pub returns-then-x-top : goal.returns-then-x-top
 returns-then-x-top c = below_top c.args.x c.if-x-top.true
 
 pub returns-else-x-top : goal.returns-else-x-top
-returns-else-x-top c = not_below c.args.x c.if-x-top.false
+returns-else-x-top c = c.if-x-top.false ∙ not_below c.args.x c.if-x-top.false
