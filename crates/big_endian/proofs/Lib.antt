@@ -1,3 +1,2 @@
 -- Laws on numbers as bytes.
 pub mod Bytes
-pub mod Parts

@@ -15,7 +15,8 @@ use Rattle.answer.specs.Number.{is_finite}
 use Rattle.answer.proofs.Given.{refuse_answered, then_answered}
 use Rattle.arithmetic.specs.Arith.{ieee}
 use Rattle.big_endian.specs.BigEndian.{double_in, double_bytes}
-use Rattle.big_endian.proofs.Bytes.{length_double, double_back, bytes_back, bytes_by_place, bytes_take, bytes_drop}
+use Rattle.std.proofs.lemmas.List.Elements.{All-take, All-drop, All-from_get_or}
+use Rattle.big_endian.proofs.Bytes.{length_double, double_back, bytes_back}
 use Rattle.big_endian.proofs.Bytes as held
 use Rattle.origin.specs.Table.{check_table, numbers_sound}
 use Rattle.origin.proofs.Check.{passed_sound}
@@ -81,8 +82,8 @@ bytes_from_doubles zero (x ∷ b) l r h = absurd (omega arith)
 bytes_from_doubles (suc m) b l r h =
     let eight : length (take 8 b) ≡ 8 = simp length-take (omega arith) in
     let rest : length (drop 8 b) ≡ 8 * m = simp length-drop (omega arith) in
-    let one = bytes_back (bytes_take 8 r) eight (finite_number (double_in (take 8 b)) (h 0 (omega arith))) in
-    let more = bytes_from_doubles m (drop 8 b) rest (bytes_drop 8 r) (λ i k. h (suc i) (omega arith)) in
+    let one = bytes_back (take 8 b) (All-take _ 8 b r) eight (finite_number (double_in (take 8 b)) (h 0 (omega arith))) in
+    let more = bytes_from_doubles m (drop 8 b) rest (All-drop _ 8 b r) (λ i k. h (suc i) (omega arith)) in
     (λ i. one i ++ more i) ∙ take-append-drop 8 b
 
 module _ (b : List ℕ) (e : headed b ≡ true) where
@@ -116,7 +117,7 @@ unfolding table_in file_of Numbers
 file_back file bytes head sound =
     let size = headed_size file head in
     let rest : length (drop 5 file) ≡ 8 * 84 = simp length-drop (omega arith) in
-    ap (λ (x : List ℕ). HEADER ++ x) (bytes_from_doubles 84 (drop 5 file) rest (bytes_drop 5 bytes) (sound_finite (table_in file) sound))
+    ap (λ (x : List ℕ). HEADER ++ x) (bytes_from_doubles 84 (drop 5 file) rest (All-drop _ 5 file bytes) (sound_finite (table_in file) sound))
     ∙ header_first file head
 
 loaded_saves : (file : List ℕ) (table : List Float) → Bytes file → table_given ieee file ≡ answered table → file_given ieee table SIZE ≡ answered file
@@ -126,7 +127,7 @@ loaded_saves file table h e =
     let t = then_answered (check_table ieee (table_in file)) (answered (table_in file)) table r.1 in
     let same : table_in file ≡ table = let z = t.1 in cc in
     let head = is_so (headed file) r.0 in
-    let back = file_back file (bytes_by_place file h) head (passed_sound ieee (table_in file) t.0) in
+    let back = file_back file (All-from_get_or _ file 0 h) head (passed_sound ieee (table_in file) t.0) in
     ap (λ (x : List Float). file_given ieee x SIZE) (sym same) ∙ saved ieee (table_in file) SIZE refl t.0 ∙ ap answered back
 
 pub round_trip : RoundTrip

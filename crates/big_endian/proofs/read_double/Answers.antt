@@ -1,12 +1,20 @@
 -- `read_double` meets its contract. Assumes nothing.
-use mathlib.Core.Path.{sym, ap, ◌∙◌}
+use mathlib.Core.Path.{◌≡◌, ap, ◌∙◌}
+use Prim.Native.Nat.{ℕ, ◌+◌, ◌-◌}
+use native.Mathlib.Omega.{arith}
 use lib.Ieee.{binary64, of_bits}
+use lib.ListN.{take, drop, length-take, length-drop}
+use Rattle.std.specs.Int.{w64, from_be_bytes}
 use Rattle.big_endian.specs.BigEndian.{double_in}
-use Rattle.big_endian.proofs.Parts.{eight_at}
+use Rattle.big_endian.proofs.Bytes.{eight_read}
 use Rattle.big_endian.proofs.read_double.Goals as goal
 
 pub returns : goal.returns
 unfolding double_in
 returns c =
-    let bits = eight_at c.args.bytes.now c.args.at c.requires in
-    c.value.ensures ∙ ap (of_bits binary64) (rw (c.four.ensures.value, c.four-2.ensures.value) (sym bits))
+    let bytes = c.args.bytes.now in
+    let at = c.args.at in
+    let e : at + 8 - at ≡ 8 = omega arith in
+    let eight = c.copy_from_slice.ensures.after ∙ ap (λ (n : ℕ). take n (drop at bytes)) e in
+    let bits = c.from_be_bytes.ensures ∙ ap (from_be_bytes w64) eight ∙ eight_read _ (simp (length-take, length-drop) (omega arith)) in
+    c.value.ensures ∙ ap (of_bits binary64) bits

@@ -1,15 +1,10 @@
--- `value` meets its contract: `of_bits` reads a NaN's bits as `nan`, which is also what 0 / 0 is. Assumes nothing.
+-- `value` meets its contract: `of_bits` reads a NaN's bits as `nan`, which is also what `f64::NAN` is. Assumes nothing.
 use mathlib.Core.Path.{◌≡◌, refl, sym, ◌∙◌, subst}
 use mathlib.Core.Bool.{true}
 use lib.Dec.{T}
-use lib.Ieee.{Float, nan, inf, fin, binary64, div, is_nan, of_bits}
+use lib.Ieee.{Float, nan, inf, fin, binary64, is_nan, of_bits}
 use lib.Ieee.Bits.{nan_bits_is}
 use Rattle.big_endian.proofs.value.Goals as goal
-
--- 0 / 0, as the code has it
-zero_over_zero : div binary64 (of_bits binary64 0) (of_bits binary64 0) ≡ nan
-unfolding div of_bits
-zero_over_zero = refl
 
 only_nan : (x : Float) → true ≡ is_nan x → nan ≡ x
 unfolding is_nan
@@ -18,6 +13,7 @@ only_nan (inf s) e = absurd (subst T e tt)
 only_nan (fin s m k) e = absurd (subst T e tt)
 
 pub returns-then-is_nan : goal.returns-then-is_nan
+unfolding of_bits
 returns-then-is_nan c =
     let bits = c.args.bits in
-    zero_over_zero ∙ only_nan (of_bits binary64 bits) (sym c.if-is_nan.true ∙ c.is_nan.ensures ∙ nan_bits_is binary64 bits)
+    only_nan (of_bits binary64 bits) (sym c.if-is_nan.true ∙ c.is_nan.ensures ∙ nan_bits_is binary64 bits)
