@@ -1,7 +1,6 @@
 -- Both conversions as calls (document 01, "Calls and their numbers"): what they give, value or number. Definitions only.
 use Rattle.std.specs.Prelude.{not, ◌&&◌}
-use Rattle.answer.specs.Given.{Given, answered, refused, refuse_if, and_then}
-use Rattle.answer.specs.Answer.{number_of}
+use Rattle.answer.specs.Given.{Given, answered, refuse_if, and_then}
 use Rattle.answer.specs.Number.{is_finite, check_number}
 use Rattle.arithmetic.specs.Arith.{Arith}
 use Rattle.arithmetic.specs.Numbers.{4·0}
@@ -10,25 +9,6 @@ use Rattle.coordinates.specs.CoordinateTransforms.{from_lon_lat, to_lon_lat}
 use Rattle.coordinates.specs.declared.coords.Face.{Face}
 use Rattle.coordinates.specs.declared.lonlat.LonLat.{LonLat}
 use Rattle.coordinates.specs.declared.spherical.Spherical.{Spherical}
-use Rattle.coordinates.specs.declared.conversions.SphericalAnswer.{SphericalAnswer}
-use Rattle.coordinates.specs.declared.conversions.SphericalAnswer.TheVariants as spherical
-use Rattle.coordinates.specs.declared.conversions.LonLatAnswer.{LonLatAnswer}
-use Rattle.coordinates.specs.declared.conversions.LonLatAnswer.TheVariants as lonlat
-use Rattle.coordinates.specs.declared.conversions.FaceAnswer.{FaceAnswer}
-use Rattle.coordinates.specs.declared.conversions.FaceAnswer.TheVariants as face-answer
-
--- an answer's position or face point, or the number of its refusal
-abbrev pub given_spherical : SphericalAnswer → Given Spherical
-given_spherical (spherical.Answered s) = answered s
-given_spherical (spherical.Refused n) = refused (number_of n)
-
-abbrev pub given_lon_lat : LonLatAnswer → Given LonLat
-given_lon_lat (lonlat.Answered p) = answered p
-given_lon_lat (lonlat.Refused n) = refused (number_of n)
-
-abbrev pub given_face : FaceAnswer → Given Face
-given_face (face-answer.Answered p) = answered p
-given_face (face-answer.Refused n) = refused (number_of n)
 
 -- "Ranges, ends included: longitude ±360, latitude ±90, theta and phi ±8, face x and y ±4", in this order, each number for 5 and then 6
 unfoldable pub check_lon_lat : LonLat → Given (Unit {0})

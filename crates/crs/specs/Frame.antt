@@ -3,17 +3,10 @@ use Rattle.std.specs.Prelude.{ℕ, zero, suc, Bool, true, false, List, [], ◌�
 use Rattle.std.specs.Float.{binary64}
 use Rattle.std.specs.Float.Ieee.{lt, of_bits}
 use Rattle.answer.specs.Given.{Given, answered, refused}
-use Rattle.answer.specs.Answer.{number_of}
 use Rattle.arithmetic.specs.Arith.{Arith}
 use Rattle.coordinates.specs.Vector.{x, y, z, cartesian, vec3_distance, normalize}
 use Rattle.coordinates.specs.declared.coords.Cartesian.{Cartesian}
 use Rattle.crs.specs.Candidates.{candidate}
-use Rattle.crs.specs.declared.frame.VertexAnswer.{VertexAnswer}
-use Rattle.crs.specs.declared.frame.VertexAnswer.TheVariants as vertex
-
-abbrev pub given_vertex : VertexAnswer → Given Cartesian
-given_vertex (vertex.Answered p) = answered p
-given_vertex (vertex.Refused n) = refused (number_of n)
 
 -- 1e-5
 unfoldable pub TOLERANCE : Float

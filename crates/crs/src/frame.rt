@@ -1,20 +1,14 @@
 // The frame's rows, three numbers each, and the lookup of a vertex.
 ghost use Rattle.std.specs.Prelude.{◌≡◌, true, ◌++◌, ◌+◌, ◌≤◌, length, take, drop};
+ghost use Rattle.answer.specs.Answer.{given};
 ghost use Rattle.arithmetic.specs.Arith.{ieee};
 ghost use Rattle.origin.specs.Table.{numbers_sound};
-ghost use Rattle.crs.specs.Frame.{near, given_vertex, find_vertex, add_row, frame_rows};
+ghost use Rattle.crs.specs.Frame.{near, find_vertex, add_row, frame_rows};
 
 use crate::candidates::candidate;
 use answer::Refusal;
 use coordinates::coords::Cartesian;
 use coordinates::vec3::Vec3;
-
-// What a lookup comes to: the row, or the refusal.
-#[derive(Clone, Copy)]
-pub enum VertexAnswer {
-    Answered(Cartesian),
-    Refused(Refusal),
-}
 
 // Strictly nearer than 1e-5: the square of the distance is below 1e-10, so that no root is taken.
 fn near(point: Cartesian, vertex: Cartesian) -> bool
@@ -27,22 +21,22 @@ fn near(point: Cartesian, vertex: Cartesian) -> bool
 }
 
 // The first row of a frame that is near the point, or 8.
-pub fn get_vertex(frame: &[f64], point: Cartesian) -> VertexAnswer
-    ensures { given_vertex result ≡ find_vertex ieee frame.now point }
+pub fn get_vertex(frame: &[f64], point: Cartesian) -> Result<Cartesian, Refusal>
+    ensures { given result ≡ find_vertex ieee frame.now point }
 {
-    let mut at: usize = 0;
-    while 3 <= frame.len() - at {
+    let mut rows = frame;
+    while let [x, y, z, ..] = rows {
         let row = Cartesian(Vec3 {
-            x: frame[at],
-            y: frame[at + 1],
-            z: frame[at + 2],
+            x: *x,
+            y: *y,
+            z: *z,
         });
         if near(point, row) {
-            return VertexAnswer::Answered(row);
+            return Ok(row);
         }
-        at += 3;
+        rows = &rows[3..];
     }
-    VertexAnswer::Refused(Refusal::NoVertex)
+    Err(Refusal::NoVertex)
 }
 
 // The first numbers of `rows`, `used` many, are rows. A point that is near none of them becomes,
@@ -54,8 +48,7 @@ fn add(rows: &mut [f64], used: usize, point: Cartesian) -> usize
     ensures used { (used ≤ result) × (result ≤ used + 3) }
 {
     let row = vector::normalize(point);
-    let found = get_vertex(&rows[..used], row);
-    if let VertexAnswer::Answered(_) = found {
+    if get_vertex(&rows[..used], row).is_ok() {
         return used;
     }
     rows[used] = row.0.x;
@@ -72,10 +65,8 @@ pub fn build_frame(table: &[f64; 84], rows: &mut [f64; 396]) -> usize
     ensures rows { rows.new ≡ frame_rows ieee table.now ++ drop result rows.old }
 {
     let mut used: usize = 0;
-    let mut k: u8 = 0;
-    while k < 132 {
+    for k in 0..132 {
         used = add(rows, used, candidate(table, k));
-        k += 1;
     }
     used
 }

@@ -3,12 +3,8 @@ use Rattle.std.specs.Prelude.{ℕ, zero, suc, ◌-◌, ◌%◌, Bool, true, fals
 use Rattle.std.specs.Float.Ieee.{nan, neg, lt}
 use Rattle.std.specs.Float.{inf, fin}
 use Rattle.arithmetic.specs.Arith.{Arith}
-use Rattle.answer.specs.Given.{Given, answered, refused, refuse_if}
+use Rattle.answer.specs.Given.{Given, answered, refuse_if}
 use Rattle.elementary.specs.declared.sine.SinCos.{SinCos}
-use Rattle.elementary.specs.declared.sine.SineAnswer.{SineAnswer}
-use Rattle.elementary.specs.declared.sine.SineAnswer.TheVariants as sine-answer
-use Rattle.elementary.specs.declared.sine.SinCosAnswer.{SinCosAnswer}
-use Rattle.elementary.specs.declared.sine.SinCosAnswer.TheVariants as sin-cos-answer
 use Rattle.elementary.specs.Constants.{TAU, FRAC_2_PI, FRAC_PI_2, PI_2_REST, sine_first, sine_rest, cosine_first, cosine_rest}
 use Rattle.elementary.specs.Whole.{roundℤ}
 
@@ -27,14 +23,6 @@ outside x = beyond (fin false 1 (pos 6)) x
 unfoldable pub unless_outside : {X : Type 0} → Float → X → Given X
 unfolding beyond
 unless_outside x value = refuse_if (outside x) 19 (answered value)
-
-abbrev pub given_sine : SineAnswer → Given Float
-given_sine (sine-answer.Value v) = answered v
-given_sine sine-answer.Outside = refused 19
-
-abbrev pub given_sin_cos : SinCosAnswer → Given SinCos
-given_sin_cos (sin-cos-answer.Value p) = answered p
-given_sin_cos sin-cos-answer.Outside = refused 19
 
 -- "n mod 4 (never negative)"
 unfoldable pub modulo4 : ℤ → ℕ

@@ -5,8 +5,7 @@ use Rattle.std.specs.Float.Ieee.{of_bits, neg, lt}
 use Rattle.arithmetic.specs.Arith.{Arith}
 use Rattle.arithmetic.specs.Numbers.{0·0, 1·0}
 use Rattle.float_parts.specs.Signs.{abs, max_zero}
-use Rattle.answer.specs.Given.{Given, answered, refused, bind}
-use Rattle.answer.specs.Answer.{number_of}
+use Rattle.answer.specs.Given.{Given, answered, bind}
 use Rattle.elementary.specs.Sine.{sin_cos_given}
 use Rattle.elementary.specs.declared.sine.SinCos.{SinCos}
 use Rattle.coordinates.specs.Constants.{2·0}
@@ -19,13 +18,6 @@ use Rattle.coordinates.specs.declared.coords.FaceTriangle.{FaceTriangle}
 use Rattle.coordinates.specs.declared.coords.SphericalTriangle.{SphericalTriangle}
 use Rattle.spherical_polygon.specs.SphericalPolygon.{spherical_triangle_area}
 use Rattle.equal_area.specs.declared.equal_area.TriangleConstants.{TriangleConstants}
-use Rattle.equal_area.specs.declared.equal_area.PointAnswer.{PointAnswer}
-use Rattle.equal_area.specs.declared.equal_area.PointAnswer.TheVariants as point
-
--- a point, or the number of the refusal
-abbrev pub given_point : PointAnswer → Given Cartesian
-given_point (point.Answered p) = answered p
-given_point (point.Refused n) = refused (number_of n)
 
 -- 1e-14
 abbrev pub CORNER_MARGIN : Float

@@ -3,24 +3,18 @@
 // B and C, meet. Here are its types, and the way from the face to the sphere; the other way is crate
 // `equal_area_forward`.
 ghost use Rattle.std.specs.Prelude.{◌≡◌};
+ghost use Rattle.answer.specs.Answer.{given};
 ghost use Rattle.arithmetic.specs.Arith.{ieee};
-ghost use Rattle.equal_area.specs.EqualArea.{given_point, is_odd, point_p, between, at_angle, inside, from_barycentric, inverse};
+ghost use Rattle.equal_area.specs.EqualArea.{is_odd, point_p, between, at_angle, inside, from_barycentric, inverse};
 
 use answer::Refusal;
 use coordinates::coords::{Barycentric, Cartesian, Face, FaceTriangle, SphericalTriangle};
-use elementary::sine::{SinCos, SinCosAnswer};
+use elementary::sine::SinCos;
 use float_parts::signs::{abs, max_zero};
 use plane::face_to_barycentric;
 use sine::sin_cos;
 use square_root::root::sqrt;
 use vector::{dot, normalize, scale, scale_and_add};
-
-// A point of the sphere, or refusal 19.
-#[derive(Clone, Copy)]
-pub enum PointAnswer {
-    Answered(Cartesian),
-    Refused(Refusal),
-}
 
 // What the maps take from the one canonical triangle: all face triangles are congruent.
 #[derive(Clone, Copy)]
@@ -84,15 +78,11 @@ fn at_angle(
     c: Cartesian,
     alpha: f64,
     rho: f64,
-) -> PointAnswer
-    ensures { given_point result ≡ at_angle ieee constants a b c alpha rho }
+) -> Result<Cartesian, Refusal>
+    ensures { given result ≡ at_angle ieee constants a b c alpha rho }
 {
-    match sin_cos(alpha) {
-        SinCosAnswer::Outside => PointAnswer::Refused(Refusal::AngleOutside),
-        SinCosAnswer::Value(s) => {
-            PointAnswer::Answered(between(a, point_p(constants, b, c, s), rho))
-        }
-    }
+    let s = sin_cos(alpha)?;
+    Ok(between(a, point_p(constants, b, c, s), rho))
 }
 
 // The point of the sphere where no corner is returned. An odd triangle is normalised by exchanging B
@@ -101,8 +91,8 @@ fn inside(
     constants: TriangleConstants,
     bary: Barycentric,
     triangle: SphericalTriangle,
-) -> PointAnswer
-    ensures { given_point result ≡ inside ieee constants bary triangle }
+) -> Result<Cartesian, Refusal>
+    ensures { given result ≡ inside ieee constants bary triangle }
 {
     let a = triangle.a;
     let b = triangle.b;
@@ -122,21 +112,18 @@ fn from_barycentric(
     constants: TriangleConstants,
     bary: Barycentric,
     triangle: SphericalTriangle,
-) -> PointAnswer
-    ensures { given_point result ≡ from_barycentric ieee constants bary triangle }
+) -> Result<Cartesian, Refusal>
+    ensures { given result ≡ from_barycentric ieee constants bary triangle }
 {
     let threshold = 1.0 - 1e-14;
     if bary.u > threshold {
-        let a = triangle.a;
-        return PointAnswer::Answered(a);
+        return Ok(triangle.a);
     }
     if bary.v > threshold {
-        let b = triangle.b;
-        return PointAnswer::Answered(b);
+        return Ok(triangle.b);
     }
     if bary.w > threshold {
-        let c = triangle.c;
-        return PointAnswer::Answered(c);
+        return Ok(triangle.c);
     }
     inside(constants, bary, triangle)
 }
@@ -147,8 +134,8 @@ pub fn inverse(
     face_point: Face,
     face_triangle: FaceTriangle,
     spherical_triangle: SphericalTriangle,
-) -> PointAnswer
-    ensures { given_point result ≡ inverse ieee constants face_point face_triangle spherical_triangle }
+) -> Result<Cartesian, Refusal>
+    ensures { given result ≡ inverse ieee constants face_point face_triangle spherical_triangle }
 {
     let bary = face_to_barycentric(face_point, face_triangle);
     from_barycentric(constants, bary, spherical_triangle)

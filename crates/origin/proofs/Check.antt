@@ -1,6 +1,6 @@
 -- What the check of a table comes to: by what a row's numbers and quaternion are, and back from a check that passed. Assumes nothing.
 use mathlib.Core.Path.{◌≡◌, refl, sym, ◌∙◌}
-use mathlib.Core.Bool.{Bool, true, false, not, ◌&&◌, true≢false}
+use mathlib.Core.Bool.{Bool, true, false, not, ◌&&◌}
 use mathlib.Core.List.{List}
 use Prim.Native.Nat.{ℕ, suc, ◌+◌, ◌-◌, ◌<◌}
 use native.Mathlib.Numerals.{add-one}
@@ -22,14 +22,11 @@ module _ (test : Origin → Bool) (table : List Float) (m k : ℕ) (h : k < m) w
       let e : m - k ≡ suc (m - (k + 1)) = omega arith in
       rw (e, add-one k)
 
-  -- b is what the test gave, and the code asks for its opposite
-  pub row_fails : (b : Bool) → b ≡ test (origin_at table k) → not b ≡ true → every_row test table (m - k) k ≡ false
-  row_fails true e f = absurd (true≢false (sym f))
-  row_fails false e f = next ∙ rw (sym e)
+  pub row_fails : test (origin_at table k) ≡ false → every_row test table (m - k) k ≡ false
+  row_fails e = next ∙ rw e
 
-  pub row_passes : (b : Bool) → b ≡ test (origin_at table k) → not b ≡ false → every_row test table (m - (k + 1)) (k + 1) ≡ every_row test table (m - k) k
-  row_passes true e f = sym (next ∙ rw (sym e))
-  row_passes false e f = absurd (true≢false f)
+  pub row_passes : test (origin_at table k) ≡ true → every_row test table (m - (k + 1)) (k + 1) ≡ every_row test table (m - k) k
+  row_passes e = sym (next ∙ rw e)
 
 -- ---- the whole table
 

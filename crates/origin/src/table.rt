@@ -1,13 +1,13 @@
 // A table of twelve origins: 84 numbers, a row an origin, in final order: axis theta, axis phi, quaternion
 // x, y, z, w, angle. What its numbers must be, and the origin of a row.
 ghost use Rattle.std.specs.Prelude.{◌≡◌, ◌<◌};
-ghost use Rattle.answer.specs.Answer.{given_check};
+ghost use Rattle.answer.specs.Answer.{given};
 ghost use Rattle.arithmetic.specs.Arith.{ieee};
 ghost use Rattle.origin.specs.Origins.{origin_at};
 ghost use Rattle.origin.specs.Table.{within, row_sound, is_unit, check_table};
 
 use crate::utils::{Origin, Quat};
-use answer::{Check, Refusal};
+use answer::Refusal;
 use coordinates::base::Radians;
 use coordinates::spherical::Spherical;
 
@@ -62,30 +62,25 @@ fn is_unit(q: Quat) -> bool
 }
 
 // 21 over all rows from first to last, then 22 over all rows.
-pub fn check_rows(table: &[f64; 84]) -> Check
-    ensures { given_check result ≡ check_table ieee table.now }
+pub fn check_rows(table: &[f64; 84]) -> Result<(), Refusal>
+    ensures { given result ≡ check_table ieee table.now }
 {
-    let mut k: u8 = 0;
-    while k < 12 {
+    for k in 0..12 {
         if !row_sound(origin_in(table, k)) {
-            return Check::Refused(Refusal::TableNumber);
+            return Err(Refusal::TableNumber);
         }
-        k += 1;
     }
-    let mut m: u8 = 0;
-    while m < 12 {
-        let origin = origin_in(table, m);
-        if !is_unit(origin.quat) {
-            return Check::Refused(Refusal::TableQuaternion);
+    for m in 0..12 {
+        if !is_unit(origin_in(table, m).quat) {
+            return Err(Refusal::TableQuaternion);
         }
-        m += 1;
     }
-    Check::Passed
+    Ok(())
 }
 
 // The checks of a table that is handed over by value: 21, then 22.
-pub fn check_table(table: [f64; 84]) -> Check
-    ensures { given_check result ≡ check_table ieee table }
+pub fn check_table(table: [f64; 84]) -> Result<(), Refusal>
+    ensures { given result ≡ check_table ieee table }
 {
     check_rows(&table)
 }

@@ -1,7 +1,6 @@
 -- Document 01, "Calls and their numbers": "Open writes the frame and fills both stores with 0.0." Over a table of origins. Definitions only.
 use Rattle.std.specs.Prelude.{not, List, eqb, length, replicate, Float}
 use Rattle.answer.specs.Given.{Given, answered, refused, passed, refuse_if, and_then}
-use Rattle.answer.specs.Answer.{number_of}
 use Rattle.arithmetic.specs.Arith.{Arith}
 use Rattle.arithmetic.specs.Numbers.{0·0}
 use Rattle.origin.specs.Table.{check_table}
@@ -9,12 +8,6 @@ use Rattle.crs.specs.Frame.{frame_rows}
 use Rattle.set.specs.Sizes.{FRAME, FACE_STORE, SPHERE_STORE}
 use Rattle.set.specs.Set.{Set, set_of, check_set}
 use Rattle.set.specs.Outcome.{Outcome}
-use Rattle.set.specs.declared.open.OpenAnswer.{OpenAnswer}
-use Rattle.set.specs.declared.open.OpenAnswer.TheVariants as answer
-
-abbrev pub given_open : OpenAnswer → Given (Unit {0})
-given_open answer.Opened = passed
-given_open (answer.Refused n) = refused (number_of n)
 
 module _ (A : Arith) (table : List Float) where
   -- what open gives: 1, 2, 3; Paper 10's 21, 22; and 7 where the frame's rows aren't 62

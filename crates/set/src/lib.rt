@@ -3,6 +3,5 @@
 #![tactic(auto)]
 
 pub mod checks;
-pub mod open;
 pub mod set;
 pub mod sizes;

@@ -4,58 +4,57 @@
 #![tactic(auto)]
 
 ghost use Rattle.std.specs.Prelude.{◌≡◌};
+ghost use Rattle.answer.specs.Answer.{given};
 ghost use Rattle.arithmetic.specs.Arith.{ieee};
-ghost use Rattle.elementary.specs.Sine.{outside, given_sine, given_sin_cos, sin_given, cos_given, sin_cos_given, tan_given};
+ghost use Rattle.elementary.specs.Sine.{outside, sin_given, cos_given, sin_cos_given, tan_given};
 
-use elementary::sine::{SinCosAnswer, SineAnswer};
+use answer::Refusal;
+use elementary::sine::SinCos;
 use sine_inside::{cos_inside, sin_cos_inside, sin_inside, tan_inside};
 
 // Whether x is finite and beyond ±64: 64 itself is not.
 pub fn is_outside(x: f64) -> bool
     ensures { result ≡ outside x }
 {
-    if !answer::is_finite(x) {
-        return false;
-    }
-    64.0 < float_parts::signs::abs(x)
+    answer::is_finite(x) && 64.0 < float_parts::signs::abs(x)
 }
 
 // The sine, or "outside".
-pub fn sin(x: f64) -> SineAnswer
-    ensures { given_sine result ≡ sin_given ieee x }
+pub fn sin(x: f64) -> Result<f64, Refusal>
+    ensures { given result ≡ sin_given ieee x }
 {
     if is_outside(x) {
-        return SineAnswer::Outside;
+        return Err(Refusal::AngleOutside);
     }
-    SineAnswer::Value(sin_inside(x))
+    Ok(sin_inside(x))
 }
 
 // The cosine, or "outside".
-pub fn cos(x: f64) -> SineAnswer
-    ensures { given_sine result ≡ cos_given ieee x }
+pub fn cos(x: f64) -> Result<f64, Refusal>
+    ensures { given result ≡ cos_given ieee x }
 {
     if is_outside(x) {
-        return SineAnswer::Outside;
+        return Err(Refusal::AngleOutside);
     }
-    SineAnswer::Value(cos_inside(x))
+    Ok(cos_inside(x))
 }
 
 // Sine and cosine, or "outside".
-pub fn sin_cos(x: f64) -> SinCosAnswer
-    ensures { given_sin_cos result ≡ sin_cos_given ieee x }
+pub fn sin_cos(x: f64) -> Result<SinCos, Refusal>
+    ensures { given result ≡ sin_cos_given ieee x }
 {
     if is_outside(x) {
-        return SinCosAnswer::Outside;
+        return Err(Refusal::AngleOutside);
     }
-    SinCosAnswer::Value(sin_cos_inside(x))
+    Ok(sin_cos_inside(x))
 }
 
 // The tangent, or "outside".
-pub fn tan(x: f64) -> SineAnswer
-    ensures { given_sine result ≡ tan_given ieee x }
+pub fn tan(x: f64) -> Result<f64, Refusal>
+    ensures { given result ≡ tan_given ieee x }
 {
     if is_outside(x) {
-        return SineAnswer::Outside;
+        return Err(Refusal::AngleOutside);
     }
-    SineAnswer::Value(tan_inside(x))
+    Ok(tan_inside(x))
 }

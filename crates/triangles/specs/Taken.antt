@@ -1,7 +1,6 @@
 -- Document 01, "Triangles and calls": the triangles that a call takes for a point, and the slots that it uses (projections/dodecahedron.rs). Definitions only.
 use Rattle.std.specs.Prelude.{ℕ}
-use Rattle.answer.specs.Given.{Given, answered, refused, and_then, bind}
-use Rattle.answer.specs.Answer.{number_of}
+use Rattle.answer.specs.Given.{Given, answered, and_then, bind}
 use Rattle.arithmetic.specs.Arith.{Arith}
 use Rattle.coordinates.specs.declared.coords.FaceTriangle.{FaceTriangle}
 use Rattle.coordinates.specs.declared.polar.Polar.{Polar}
@@ -13,18 +12,6 @@ use Rattle.stores.specs.Slots.{face_slot, source_slot, sphere_slot}
 use Rattle.stores.specs.declared.used.Used.{Used}
 use Rattle.triangles.specs.Triangles.{face_taken, sphere_taken, cross_taken}
 use Rattle.triangles.specs.declared.taken.Taken.{Taken}
-use Rattle.triangles.specs.declared.taken.TakenAnswer.{TakenAnswer}
-use Rattle.triangles.specs.declared.taken.TakenAnswer.TheVariants as taken-answer
-use Rattle.triangles.specs.declared.taken.UsedAnswer.{UsedAnswer}
-use Rattle.triangles.specs.declared.taken.UsedAnswer.TheVariants as used-answer
-
-abbrev pub given_used : UsedAnswer → Given Used
-given_used (used-answer.Answered u) = answered u
-given_used (used-answer.Refused n) = refused (number_of n)
-
-abbrev pub given_taken : TakenAnswer → Given Taken
-given_taken (taken-answer.Answered t) = answered t
-given_taken (taken-answer.Refused n) = refused (number_of n)
 
 -- the face triangle of the point
 unfoldable pub face_for : Arith → Set → Used → FaceTriangle

@@ -1,8 +1,7 @@
 -- Document 01, "Triangles and calls", and Paper 6: the triangles of slots, and b × c, as a call takes them
 -- (projections/dodecahedron.rs). Definitions only.
 use Rattle.std.specs.Prelude.{ℕ, ◌+◌, ◌*◌, cond, List, Float}
-use Rattle.answer.specs.Given.{Given, answered, refused, bind}
-use Rattle.answer.specs.Answer.{number_of}
+use Rattle.answer.specs.Given.{Given, answered, bind}
 use Rattle.arithmetic.specs.Arith.{Arith}
 use Rattle.coordinates.specs.CoordinateTransforms.{radians, to_polar, to_cartesian}
 use Rattle.coordinates.specs.Gnomonic.{gnomonic_inverse}
@@ -18,12 +17,6 @@ use Rattle.crs.specs.Frame.{find_vertex}
 use Rattle.set.specs.Sizes.{FACE_COORDINATES, FACE_WIDTH, SPHERE_COORDINATES, SPHERE_CROSS, SPHERE_WIDTH}
 use Rattle.set.specs.Set.{Set}
 use Rattle.stores.specs.Slots.{run, filled, face_in, sphere_in, vector_in}
-use Rattle.triangles.specs.declared.triangles.TriangleAnswer.{TriangleAnswer}
-use Rattle.triangles.specs.declared.triangles.TriangleAnswer.TheVariants as triangle
-
-abbrev pub given_triangle : TriangleAnswer → Given SphericalTriangle
-given_triangle (triangle.Answered t) = answered t
-given_triangle (triangle.Refused n) = refused (number_of n)
 
 module _ (A : Arith) where
   open A use {◌⊕◌}

@@ -1,12 +1,13 @@
--- `conversions::check_face` meets its contract. Assumes nothing.
+-- `check_face` meets its contract: the definition has the code's tests; 4.0 is written there by its bits. Assumes nothing.
+use Rattle.std.proofs.Common.{rules}
 use lib.Ieee.{of_bits}
 use Rattle.coordinates.specs.Conversions.{check_face}
 use Rattle.coordinates.proofs.conversions.check_face.Goals as goal
 
-pub returns-in-Refused : goal.returns-in-Refused
+pub returns-in_err-check_number : goal.returns-in_err-check_number
 unfolding check_face of_bits
-returns-in-Refused c = simp (← c.check_number-x.ensures, c.in-Refused.is)
+returns-in_err-check_number c = search rules
 
 pub returns : goal.returns
 unfolding check_face of_bits
-returns c = simp (← c.check_number-x.ensures, c.in_default.is) c.check_number.ensures
+returns c = search rules
