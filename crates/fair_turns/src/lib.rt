@@ -2,12 +2,12 @@
 #![tactic(auto)]
 
 ghost use Rattle.std.specs.Prelude.{◌≡◌, ◌≤◌, length};
-ghost use Rattle.answer.specs.Answer.{given_check};
+ghost use Rattle.answer.specs.Answer.{given};
 ghost use Rattle.turns.specs.Turns.{CALLS as the_calls, CHANNELS as the_channels, sum, capped, round, turns_given, grants_after};
 ghost use Rattle.turns.specs.Levels.{short_of, LastLevel};
 
-use answer::{Check, Refusal};
-use turns::{smaller, still_short};
+use answer::Refusal;
+use turns::still_short;
 
 // The channels of a turn.
 pub const CHANNELS: usize = 16;
@@ -23,13 +23,7 @@ fn handed_out(wishes: &[u16], level: u16) -> u16
     requires { sum (capped level wishes.now) ≤ the_calls }
     ensures { result ≡ sum (capped level wishes.now) }
 {
-    let mut calls: u16 = 0;
-    let mut i: usize = 0;
-    while i < wishes.len() {
-        calls += smaller(wishes[i], level);
-        i += 1;
-    }
-    calls
+    wishes.iter().map(|wish| (*wish).min(level)).sum()
 }
 
 // How many channels wish for more than the level.
@@ -37,13 +31,7 @@ fn short_of(wishes: &[u16], level: u16) -> u16
     requires { length wishes.now ≡ the_channels }
     ensures { result ≡ short_of level wishes.now }
 {
-    let mut channels: u16 = 0;
-    let mut i: usize = 0;
-    while i < wishes.len() {
-        channels += still_short(wishes[i], level);
-        i += 1;
-    }
-    channels
+    wishes.iter().map(|wish| still_short(*wish, level)).sum()
 }
 
 // The level at which whole rounds end. As many rounds as what remains allows are taken at once, so
@@ -69,32 +57,30 @@ fn last_round(wishes: &[u16], level: u16, calls: u16, grants: &mut [u16])
     ensures { grants.new ≡ round calls wishes.now (capped level wishes.now) }
 {
     let mut left = calls;
-    let mut i: usize = 0;
-    while i < wishes.len() {
-        let grant = smaller(wishes[i], level);
-        let one = smaller(left, still_short(wishes[i], grant));
+    for (i, wish) in wishes.iter().enumerate() {
+        let grant = (*wish).min(level);
+        let one = left.min(still_short(*wish, grant));
         grants[i] = grant + one;
         left -= one;
-        i += 1;
     }
 }
 
 // Hands out a turn's calls: first the smaller of its wish and 16 to each channel, then what remains
 // singly in channel order, round after round, to those still short. Refuses with 24 unless there are
 // 16 wishes, and then with 25 unless there are 16 grants; the grants are then as they were.
-pub fn fair_turns(wishes: &[u16], grants: &mut [u16]) -> Check
-    ensures answer { given_check result ≡ turns_given wishes.now grants.old }
+pub fn fair_turns(wishes: &[u16], grants: &mut [u16]) -> Result<(), Refusal>
+    ensures answer { given result ≡ turns_given wishes.now grants.old }
     ensures grants { grants.new
         ≡ grants_after (turns_given wishes.now grants.old) wishes.now grants.old }
 {
     if wishes.len() != CHANNELS {
-        return Check::Refused(Refusal::WishCount);
+        return Err(Refusal::WishCount);
     }
     if grants.len() != CHANNELS {
-        return Check::Refused(Refusal::GrantCount);
+        return Err(Refusal::GrantCount);
     }
     let level = last_level(wishes);
     let left = CALLS - handed_out(wishes, level);
     last_round(wishes, level, left, grants);
-    Check::Passed
+    Ok(())
 }

@@ -1,32 +1,15 @@
--- Loops that pass over the channels in order, told by the wishes from channel i on. Assumes nothing.
+-- The round over the channels in order, told by the wishes from channel i on. Assumes nothing.
 use mathlib.Core.Path.{◌≡◌, sym, ap, ◌∙◌}
-use mathlib.Core.List.{List, [], ◌∷◌, ◌++◌, map, append-nil, append_assoc}
+use mathlib.Core.List.{List, [], ◌∷◌, ◌++◌, append-nil, append_assoc}
 use Prim.Native.Nat.{ℕ, ◌+◌, ◌-◌, ◌≤◌, ◌<◌, min}
-use native.Mathlib.Nat.{add_assoc}
 use native.Mathlib.Numerals.{add-one}
-use native.Mathlib.Omega.{arith}
 use lib.ListN.{length, get_or, take, drop, set, drop_of_length-le}
 use lib.Seq.{drop-cons, take_all, take-suc-set}
-use Rattle.turns.specs.Turns.{sum, capped, single, round}
+use Rattle.turns.specs.Turns.{capped, single, round}
 
 -- channel i, and those behind it
 from_here : (ws : List ℕ) (i : ℕ) → i < length ws → drop i ws ≡ get_or ws i 0 ∷ drop (i + 1) ws
 from_here ws i h = rw (add-one, drop-cons ws i 0)
-
--- ---- a sum over the channels, of which n is counted before channel i
-
-module _ (f : ℕ → ℕ) (ws : List ℕ) (i n : ℕ) (so_far : n + sum (map f (drop i ws)) ≡ sum (map f ws)) where
-  pub count_next : i < length ws → (r : ℕ) → r ≡ f (get_or ws i 0) → n + r + sum (map f (drop (i + 1) ws)) ≡ sum (map f ws)
-  count_next h r e =
-      let behind = sum (map f (drop (i + 1) ws)) in
-      let here : sum (map f (drop i ws)) ≡ f (get_or ws i 0) + behind = ap (λ (l : List ℕ). sum (map f l)) (from_here ws i h) in
-      ap (λ (m : ℕ). n + m + behind) e
-      ∙ add_assoc n (f (get_or ws i 0)) behind
-      ∙ ap (λ (m : ℕ). n + m) (sym here)
-      ∙ so_far
-
-  pub count_end : length ws ≤ i → n ≡ sum (map f ws)
-  count_end h = omega (arith, so_far, ap (λ (l : List ℕ). sum (map f l)) (drop_of_length-le ws h))
 
 -- ---- a round from a level, of which the first i grants are written
 

@@ -1,15 +1,21 @@
--- Two lists of numbers of the same length, place by place, and their sums. Assumes nothing.
+-- The library's sum, and two lists of numbers of the same length, place by place, and their sums. Assumes nothing.
 use mathlib.Core.Path.{◌≡◌, refl}
 use mathlib.Core.Logic.{◌⊎◌, inl, inr, ⊎_elim}
 use mathlib.Core.Bool.{Bool, true, false}
-use mathlib.Core.List.{List, [], ◌∷◌}
+use mathlib.Core.List.{List, [], ◌∷◌, map}
 use Prim.Native.Nat.{ℕ, zero, suc, ◌≤◌, ◌<◌, zero-le}
 use native.Mathlib.Omega.{arith}
 use lib.Dec.{ltb}
 use lib.ListN.{length}
 use borrow.Author.Tests.{ltb-true, ltb-false}
+use Rattle.std.specs.List.{sum_by}
+use Rattle.std.proofs.lemmas.List.Recursion.{is_sum_by}
 use Rattle.turns.specs.Turns.{sum}
 use Rattle.turns.specs.Fair.{of}
+
+-- the sum of a number for each channel, as the library's `map` and `sum` add it up
+pub sum_by_is : (f : ℕ → ℕ) (ns : List ℕ) → sum (map f ns) ≡ sum_by f ns
+sum_by_is f ns = is_sum_by (λ (l : List ℕ). sum (map f l)) f refl (λ x xs. refl) ns
 
 -- one is less at some place, or the other is at none
 pub less_somewhere : (xs ys : List ℕ) → length xs ≡ length ys → ((j : ℕ) × (of xs j < of ys j)) ⊎ ((k : ℕ) → of ys k ≤ of xs k)

@@ -1,5 +1,5 @@
 -- `last_round` meets its contract. The loop's invariant: the grants written, followed by the round over channel i and those behind it, are the round
--- over all. The measure is how many wishes are left. Assumes nothing.
+-- over all. Assumes nothing.
 use mathlib.Core.Path.{sym, ap, ◌∙◌}
 use Prim.Native.Nat.{min}
 use native.Mathlib.Omega.{arith}
@@ -15,8 +15,8 @@ overflow_add-grants c =
     omega (
       arith,
       within_wish c.loop-i.left (get_or wishes c.loop-i.i 0) c.args.level,
-      c.smaller-one.ensures ∙ ap (min c.loop-i.left) (c.still_short.ensures ∙ ap (still_short _) c.smaller-grant.ensures),
-      c.smaller-grant.ensures,
+      c.min-one.ensures ∙ ap (min c.loop-i.left) (c.still_short.ensures ∙ ap (still_short _) c.min-grant.ensures),
+      c.min-grant.ensures,
       c.type_inv.wishes c.loop-i.i,
     )
 
@@ -24,12 +24,11 @@ pub loop-i-preserved : goal.loop-i-preserved
 loop-i-preserved c =
     let loop = c.loop-i in
     let next = write_next c.args.wishes.now loop.grants loop.i loop.left c.args.level (omega arith) (omega arith) in (
-      omega arith,
-      simp length-set loop.invariant.1,
-      rw (c.smaller-one.ensures, c.still_short.ensures, c.smaller-grant.ensures) (next ∙ loop.invariant.2),
+      simp length-set loop.invariant.0,
+      rw (c.min-one.ensures, c.still_short.ensures, c.min-grant.ensures) (next ∙ loop.invariant.1),
     )
 
 pub returns : goal.returns
 returns c =
     let loop = c.loop-i in
-    sym (write_end c.args.wishes.now loop.grants loop.i loop.left c.args.level (omega arith) (omega arith)) ∙ loop.invariant.2
+    sym (write_end c.args.wishes.now loop.grants loop.i loop.left c.args.level (omega arith) (omega arith)) ∙ loop.invariant.1

@@ -1,15 +1,19 @@
--- `short_of` meets its contract. The loop's invariant: the channels counted, with those from channel i on that are short, are all that are. The
--- measure is how many wishes are left. Assumes nothing.
-use Prim.Native.Nat.{ℕ}
-use native.Mathlib.Omega.{arith}
-use Rattle.turns.specs.Turns.{still_short}
+-- `short_of` meets its contract: the library's sum is the definition's, and no more than a channel each. Assumes nothing.
+use Rattle.std.proofs.Common.{◌≡◌, ◌≤◌, ℕ, arith, rules, sym, ◌∙◌}
+use Rattle.std.specs.List.{sum_by}
+use Rattle.turns.specs.Turns.{CHANNELS, still_short}
 use Rattle.turns.proofs.Rounds.{short_most}
-use Rattle.turns.proofs.Passes.{count_next}
+use Rattle.turns.proofs.Sums.{sum_by_is}
 use Rattle.fair_turns.proofs.short_of.Goals as goal
 
-pub overflow_add-channels : goal.overflow_add-channels
-overflow_add-channels c =
-    let loop = c.loop-i in
-    let counts : ℕ → ℕ = λ wish. still_short wish c.args.level in
-    let counted = count_next counts c.args.wishes.now loop.i loop.channels loop.invariant.1 (omega arith) _ c.still_short-channels.ensures in
-    omega (arith, c.requires, counted, short_most c.args.level c.args.wishes.now)
+pub sum-requires-clause-fits : goal.sum-requires-clause-fits
+sum-requires-clause-fits c =
+    let wishes = c.args.wishes.now in
+    let same = sum_by_is (λ (wish : ℕ). still_short wish c.args.level) wishes in
+    let fits : sum_by (λ (wish : ℕ). still_short wish c.args.level) wishes ≤ CHANNELS = omega (arith, short_most c.args.level wishes) in
+    search rules
+
+pub returns : goal.returns
+returns c =
+    let added : c.sum.result ≡ sum_by (λ (wish : ℕ). still_short wish c.args.level) c.args.wishes.now = search rules in
+    added ∙ sym (sum_by_is (λ (wish : ℕ). still_short wish c.args.level) c.args.wishes.now)
