@@ -1,34 +1,35 @@
--- One turn of each loop, on the definitions.
+-- One turn of each loop, on the definitions: of n strikes g are behind it.
 --     stays, goes, none_left   `remain` where the strike at hand stays, where it is dropped, and where there is none
 --     one_off, all_off         `lowered` by the strike at hand, and where there is none
 -- Assumes nothing.
-use Rattle.std.proofs.Common.{◌≡◌, ℕ, zero, suc, ◌-◌, ◌<◌, ◌≤◌, List, get_or, refl, not-suc-le-zero, arith, le-leb}
+use Rattle.std.proofs.Common.{◌≡◌, ℕ, suc, ◌+◌, ◌-◌, ◌<◌, ◌≤◌, List, get_or, arith, le-leb}
 use borrow.Author.Tests.{lt-leb}
-use Rattle.window_ring.specs.Ring.{SPAN}
-use Rattle.window_ring.specs.Ring.{lower, next, remain, lowered}
+use Rattle.window_ring.specs.Ring.{SPAN, lower, next, remain, lowered}
+
+here : (n g : ℕ) → g < n → n - g ≡ suc (n - (g + 1))
+here n g l = omega arith
+
+over : (n g : ℕ) → n ≤ g → n - g ≡ 0
+over n g l = omega arith
 
 -- d is how far the strike at hand is behind minute m
-pub stays : (ms : List ℕ) (m n at d : ℕ) → d ≡ m - get_or ms at 0 → 0 < n → d < SPAN → n ≡ remain ms m n at
-unfolding remain
-stays ms m zero at d e l t = absurd (not-suc-le-zero l)
-stays ms m (suc n) at d e l t = simp (lt-leb _ _ (rw e at t))
+module _ (ms : List ℕ) (m n g at d : ℕ) (behind : d ≡ m - get_or ms at 0) (l : g < n) where
+  pub stays : d < SPAN → n - g ≡ remain ms m (n - g) at
+  unfolding remain
+  stays t = rw (here n g l) (simp (lt-leb _ _ (rw behind at t)))
 
-pub goes : (ms : List ℕ) (m n at d : ℕ) → d ≡ m - get_or ms at 0 → 0 < n → SPAN ≤ d → remain ms m (n - 1) (next at) ≡ remain ms m n at
-unfolding remain
-goes ms m zero at d e l t = absurd (not-suc-le-zero l)
-goes ms m (suc n) at d e l t = let one : suc n - 1 ≡ n = omega arith in simp (one, le-leb _ _ (rw e at t))
+  pub goes : SPAN ≤ d → remain ms m (n - (g + 1)) (next at) ≡ remain ms m (n - g) at
+  unfolding remain
+  goes t = rw (here n g l) (simp (le-leb _ _ (rw behind at t)))
 
-pub none_left : (ms : List ℕ) (m n at : ℕ) → n ≤ 0 → 0 ≡ remain ms m n at
+pub none_left : (ms : List ℕ) (m n g at : ℕ) → n ≤ g → 0 ≡ remain ms m (n - g) at
 unfolding remain
-none_left ms m zero at l = refl
-none_left ms m (suc n) at l = absurd (not-suc-le-zero l)
+none_left ms m n g at l = rw (over n g l)
 
-pub one_off : (os : List ℕ) (n at : ℕ) (counts : List ℕ) → 0 < n → lowered os (n - 1) (next at) (lower counts (get_or os at 0)) ≡ lowered os n at counts
+pub one_off : (os : List ℕ) (n g at : ℕ) (counts : List ℕ) → g < n → lowered os (n - (g + 1)) (next at) (lower counts (get_or os at 0)) ≡ lowered os (n - g) at counts
 unfolding lowered
-one_off os zero at counts l = absurd (not-suc-le-zero l)
-one_off os (suc n) at counts l = let one : suc n - 1 ≡ n = omega arith in simp one
+one_off os n g at counts l = rw (here n g l)
 
-pub all_off : (os : List ℕ) (n at : ℕ) (counts : List ℕ) → n ≤ 0 → counts ≡ lowered os n at counts
+pub all_off : (os : List ℕ) (n g at : ℕ) (counts : List ℕ) → n ≤ g → counts ≡ lowered os (n - g) at counts
 unfolding lowered
-all_off os zero at counts l = refl
-all_off os (suc n) at counts l = absurd (not-suc-le-zero l)
+all_off os n g at counts l = rw (over n g l)

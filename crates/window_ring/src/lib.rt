@@ -2,33 +2,28 @@
 // 4,095. Here those that are too old are counted, and the twelve counts lowered and raised. No function has a `requires`.
 #![tactic(auto)]
 
-ghost use Rattle.std.specs.Prelude.{◌≡◌, ◌-◌, ◌%◌};
+ghost use Rattle.std.specs.Prelude.{◌≡◌, ◌%◌};
 ghost use Rattle.window_ring.specs.Ring.{lower, raise, remain, lowered};
 
-// a - b, and 0 where b is the greater.
-pub fn saturating_sub(a: u32, b: u32) -> u32
-    ensures { result ≡ a - b }
-{
-    if b < a { a - b } else { 0 }
-}
-
 // Counts one less for an origin.
+#[tactic(auto, unfolding(crate::specs::Ring::lower))]
 fn lower_count(counts: &mut [u32; 12], origin: u8)
     ensures { counts.new ≡ lower counts.old origin }
 {
-    let k = origin as usize;
+    let k = usize::from(origin);
     if k < 12 {
-        counts[k] = saturating_sub(counts[k], 1);
+        counts[k] = counts[k].saturating_sub(1);
     }
 }
 
 // Counts one more for an origin.
+#[tactic(auto, unfolding(crate::specs::Ring::raise))]
 pub fn raise_count(counts: &mut [u32; 12], origin: u8)
     ensures { counts.new ≡ raise counts.old origin }
 {
-    let k = origin as usize;
+    let k = usize::from(origin);
     if k < 12 {
-        counts[k] = std::num::wrapping_add_u32(counts[k], 1);
+        counts[k] = counts[k].wrapping_add(1);
     }
 }
 
@@ -38,13 +33,11 @@ pub fn remaining(minutes: &[u32; 4096], minute: u32, n: u32, from: u32) -> u32
     ensures { result ≡ remain minutes.now minute n (from % 4096) }
 {
     let mut at = (from as usize) % 4096;
-    let mut k = n;
-    while 0 < k {
-        if saturating_sub(minute, minutes[at]) < 180 {
-            return k;
+    for gone in 0..n {
+        if minute.saturating_sub(minutes[at]) < 180 {
+            return n - gone;
         }
         at = (at + 1) % 4096;
-        k -= 1;
     }
     0
 }
@@ -54,10 +47,8 @@ pub fn lower_counts(origins: &[u8; 4096], counts: &mut [u32; 12], n: u32, from: 
     ensures { counts.new ≡ lowered origins.now n (from % 4096) counts.old }
 {
     let mut at = (from as usize) % 4096;
-    let mut k = n;
-    while 0 < k {
+    for _gone in 0..n {
         lower_count(counts, origins[at]);
         at = (at + 1) % 4096;
-        k -= 1;
     }
 }

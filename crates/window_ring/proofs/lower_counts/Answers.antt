@@ -1,12 +1,12 @@
--- `window::lower_counts` meets its contract. The loop's invariant: lowering the counts by the strikes still to come leaves what lowering them by all leaves.
--- The measure is how many are still to come. Assumes nothing.
+-- `lower_counts` meets its contract. The loop's invariant: lowering the counts by the strikes still to come leaves what lowering them by all leaves.
+-- Assumes nothing.
 use Rattle.std.proofs.Common.{◌∙◌, arith}
 use Rattle.window_ring.proofs.Loops.{one_off, all_off}
 use Rattle.window_ring.proofs.lower_counts.Goals as goal
 
-pub loop-k-preserved : goal.loop-k-preserved
-loop-k-preserved c =
-    (omega arith, omega arith, rw c.lower_count.ensures (one_off _ _ _ _ c.loop-k-test.true ∙ c.loop-k.invariant.2))
+pub loop-gone-preserved : goal.loop-gone-preserved
+loop-gone-preserved c =
+    (omega arith, rw c.lower_count.ensures (one_off _ _ c.loop-gone._gone _ _ c.loop-gone-test.true ∙ c.loop-gone.invariant.1))
 
 pub returns : goal.returns
-returns c = all_off _ _ _ _ c.loop-k-test.false ∙ c.loop-k.invariant.2
+returns c = all_off _ _ c.loop-gone._gone _ _ c.loop-gone-test.false ∙ c.loop-gone.invariant.1

@@ -1,11 +1,7 @@
--- `window::remaining` meets its contract. The loop's invariant: as many remain of the strikes still looked at as of all.
--- The measure is how many are looked at. Assumes nothing.
-use Rattle.std.proofs.Common.{◌≡◌, ◌<◌, ◌≤◌}
+-- `remaining` meets its contract. The loop's invariant: as many remain of the strikes still looked at as of all. Assumes nothing.
+use Rattle.std.proofs.Common.{◌≡◌, ◌-◌, ◌<◌}
 use Rattle.window_ring.specs.Ring.{remain}
 use Rattle.window_ring.proofs.remaining.Given as goal
 
-abbrev pub invariant-loop-k : goal.invariant-loop-k
-invariant-loop-k l = (l.at < 4096) × (l.k ≤ l.n) × (remain l.minutes l.minute l.k l.at ≡ remain l.minutes l.minute l.initial.k l.initial.at)
-
-abbrev pub decreases-loop-k : goal.decreases-loop-k
-decreases-loop-k l = l.k
+abbrev pub invariant-loop-gone : goal.invariant-loop-gone
+invariant-loop-gone l = (l.at < 4096) × (remain l.minutes l.minute (l.n - l.gone) l.at ≡ remain l.minutes l.minute l.n l.initial.at)
