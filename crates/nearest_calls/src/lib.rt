@@ -23,6 +23,7 @@ pub fn nearest(point: Spherical) -> Result<u8, Refusal>
 }
 
 // The call with a table: its 21 and 22, and then as nearest.
+#[tactic(auto, unfolding(crate::specs::Calls::nearest_given))]
 pub fn nearest_with(table: [f64; 84], point: Spherical) -> Result<u8, Refusal>
     ensures { given result ≡ nearest_given ieee table point }
 {

@@ -20,7 +20,12 @@ pub fn check_origin(origin: u8) -> Result<(), Refusal>
 }
 
 // 1, 2, 3, 4.
-pub fn check_call(frame: &[f64], face_store: &[f64], sphere_store: &[f64], origin: u8) -> Result<(), Refusal>
+pub fn check_call(
+    frame: &[f64],
+    face_store: &[f64],
+    sphere_store: &[f64],
+    origin: u8,
+) -> Result<(), Refusal>
     ensures { given result ≡ check_call (lent_shared frame face_store sphere_store).entry origin }
 {
     check_set(frame, face_store, sphere_store)?;
