@@ -11,7 +11,7 @@ use window::Window;
 pub extern "C" fn a5_window_new(window: &mut Window)
     ensures { window.new ≡ empty_window }
 {
-    *window = window::new();
+    *window = Window::new();
 }
 
 // Add: one strike, by its minute and its origin.
@@ -19,7 +19,7 @@ pub extern "C" fn a5_window_new(window: &mut Window)
 pub extern "C" fn a5_window_add(window: &mut Window, minute: u32, origin: u8) -> u8
     ensures { AddedFor window.old minute origin result window.new }
 {
-    let given = lent_window::add(window, minute, origin);
+    let given = window.add(minute, origin);
     answer::status(given)
 }
 

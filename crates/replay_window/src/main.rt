@@ -9,31 +9,7 @@ use replay::record::{Next, word};
 use replay::{record, report};
 use std::io;
 use std::io::{Read, Write};
-use window::State;
-
-// What a record comes to, and the window's state after it.
-#[derive(Clone, Copy)]
-struct Replayed {
-    outcome: Outcome,
-    state: State,
-}
-
-// Whether there was a record, and the window's state after it.
-#[derive(Clone, Copy)]
-struct Progress {
-    is_there: bool,
-    state: State,
-}
-
-// A number of 32 bits as one of 64.
-fn wide(x: u32) -> u64 {
-    x as u64
-}
-
-// A byte as a number of 64 bits.
-fn wide_byte(x: u8) -> u64 {
-    x as u64
-}
+use window::Window;
 
 // An outcome of two whole numbers.
 fn two(first: u64, second: u64) -> Outcome {
@@ -47,104 +23,61 @@ fn two(first: u64, second: u64) -> Outcome {
 }
 
 // A new window. How many it keeps is the outcome.
-fn renew(minutes: &mut [u32; 4096], origins: &mut [u8; 4096], counts: &mut [u32; 12]) -> Replayed {
-    let window = window::new();
-    let m = window.minutes;
-    let o = window.origins;
-    let c = window.counts;
-    let state = window.state;
-    *minutes = m;
-    *origins = o;
-    *counts = c;
-    let kept = wide(state.kept);
-    let outcome = Outcome {
+fn renew(window: &mut Window) -> Outcome {
+    *window = Window::new();
+    Outcome {
         status: 0,
         count: 1,
-        first: kept,
+        first: u64::from(window.state.kept),
         second: 0,
         third: 0,
-    };
-    Replayed { outcome, state }
+    }
 }
 
 // An addition. What it gives is the outcome, with no further answer.
-fn add(
-    words: &[u8; 96],
-    minutes: &mut [u32; 4096],
-    origins: &mut [u8; 4096],
-    counts: &mut [u32; 12],
-    state: State,
-) -> Replayed {
+fn add(words: &[u8; 96], window: &mut Window) -> Outcome {
     let minute = (word(words, 0) % 4294967296) as u32;
     let origin = (word(words, 1) % 256) as u8;
-    let s = window::add_to_parts(minutes, origins, counts, state, minute, origin);
-    let given = s.answer;
-    let after = s.state;
-    Replayed {
-        outcome: refused(answer::status(given)),
-        state: after,
-    }
+    refused(answer::status(window.add(minute, origin)))
 }
 
 // The count of an origin, and the number kept.
-fn count(words: &[u8; 96], counts: &[u32; 12], state: State) -> Outcome {
+fn count(words: &[u8; 96], window: &Window) -> Outcome {
     let k = (word(words, 0) % 12) as usize;
-    two(wide(counts[k]), wide(state.kept))
+    two(u64::from(window.counts[k]), u64::from(window.state.kept))
 }
 
 // The minute and the origin of a kept strike, by its place from the oldest on.
-fn strike(words: &[u8; 96], minutes: &[u32; 4096], origins: &[u8; 4096], state: State) -> Outcome {
+fn strike(words: &[u8; 96], window: &Window) -> Outcome {
     let i = (word(words, 0) % 4096) as usize;
-    let first = state.first as usize;
-    let at = (first + i) % 4096;
-    two(wide(minutes[at]), wide_byte(origins[at]))
+    let at = (window.state.first as usize + i) % 4096;
+    two(u64::from(window.minutes[at]), u64::from(window.origins[at]))
 }
 
 // The outcome of the function with this number.
-fn replay_one(
-    number: u8,
-    words: &[u8; 96],
-    minutes: &mut [u32; 4096],
-    origins: &mut [u8; 4096],
-    counts: &mut [u32; 12],
-    state: State,
-) -> Replayed {
-    if number == 1 {
-        return renew(minutes, origins, counts);
+fn replay_one(number: u8, words: &[u8; 96], window: &mut Window) -> Outcome {
+    match number {
+        1 => renew(window),
+        2 => add(words, window),
+        3 => count(words, window),
+        _ => strike(words, window),
     }
-    if number == 2 {
-        return add(words, minutes, origins, counts, state);
-    }
-    if number == 3 {
-        let outcome = count(words, counts, state);
-        return Replayed { outcome, state };
-    }
-    let outcome = strike(words, minutes, origins, state);
-    Replayed { outcome, state }
 }
 
-// Reads one record and replays it.
+// Reads one record and replays it. Answers whether there was one.
 fn replay_next<R: Read, W: Write>(
     from: &mut R,
     to: &mut W,
-    minutes: &mut [u32; 4096],
-    origins: &mut [u8; 4096],
-    counts: &mut [u32; 12],
-    state: State,
+    window: &mut Window,
     compared: &mut [u64; 32],
     differ: &mut [u64; 32],
-) -> io::Result<Progress> {
+) -> io::Result<bool> {
     let mut words = [0u8; 96];
     let next = record::read(from, to, b"01211", &mut words)?;
     let Next::Record(head) = next else {
-        return Ok(Progress {
-            is_there: false,
-            state,
-        });
+        return Ok(false);
     };
-    let done = replay_one(head.number, &words, minutes, origins, counts, state);
-    let given = done.outcome;
-    let after = done.state;
+    let given = replay_one(head.number, &words, window);
     replay_tally::compare(
         to,
         b" new add count strike",
@@ -154,40 +87,16 @@ fn replay_next<R: Read, W: Write>(
         compared,
         differ,
     )?;
-    Ok(Progress {
-        is_there: true,
-        state: after,
-    })
+    Ok(true)
 }
 
 // Nothing says that the input ends, so the loop counts its records down from more than any list has.
 fn run<R: Read, W: Write>(from: &mut R, to: &mut W) -> io::Result<()> {
-    let mut minutes = [0u32; 4096];
-    let mut origins = [0u8; 4096];
-    let mut counts = [0u32; 12];
+    let mut window = Window::new();
     let mut compared = [0u64; 32];
     let mut differ = [0u64; 32];
-    let mut progress = Progress {
-        is_there: true,
-        state: State {
-            first: 0,
-            kept: 0,
-            last: 0,
-        },
-    };
     let mut left: u32 = 0xffff_ffff;
-    while left > 0 && progress.is_there {
-        let state = progress.state;
-        progress = replay_next(
-            from,
-            to,
-            &mut minutes,
-            &mut origins,
-            &mut counts,
-            state,
-            &mut compared,
-            &mut differ,
-        )?;
+    while left > 0 && replay_next(from, to, &mut window, &mut compared, &mut differ)? {
         left -= 1;
     }
     if left == 0 {

@@ -4,7 +4,8 @@
 --     leaves, adds                              the contract of an addition, from what it gives
 --     counts_remaining, builds_window           what the code works out is what the definitions say
 -- Assumes nothing.
-use mathlib.Core.Path.{◌≡◌, sym, ap, subst}
+use mathlib.Core.Path.{◌≡◌, sym, ap}
+use Rattle.std.specs.Prelude.{Ok, Err}
 use mathlib.Core.Bool.{Bool, true, false}
 use mathlib.Core.List.{List}
 use Prim.Native.Nat.{ℕ, ◌+◌, ◌-◌, ◌%◌, ◌<◌, ◌≤◌, min}
@@ -14,8 +15,6 @@ use lib.ListN.{set}
 use Rattle.answer.specs.Given.{Given, refused, passed, refuse_if}
 use Rattle.answer.specs.Answer.{number_of}
 use Rattle.answer.specs.declared.Refusal.{Refusal}
-use Rattle.answer.specs.declared.Check.TheVariants as check
-use Rattle.window.specs.declared.Step.{Step}
 use Rattle.window.specs.declared.Window.{Window}
 use Rattle.window.specs.Window.{MOST, window_of, state_of}
 use Rattle.window.specs.Addition.{raise, remain, lowered, held, remaining, with_strike, add_given, window_after, AddedTo}
@@ -53,14 +52,11 @@ module _ (w : Window) (m o : ℕ) where
     unfolding add_given
     has_room k = gets_none (le-ltb 11 o h) (le-ltb m w.state.last l) (lt-leb MOST (remaining w m) k)
 
-  -- a step that is refused with r leaves the arrays and the state
-  pub leaves : (s : Step) (r : Refusal) → s ≡ record { answer = check.Refused r; state = w.state } → add_given w m o ≡ refused (number_of r)
-      → AddedTo w m o s.answer (window_of w.minutes w.origins w.counts s.state)
-  leaves s r es e =
-      subst (λ (t : Step). AddedTo w m o t.answer (window_of w.minutes w.origins w.counts t.state)) (sym es)
-      record { answer = sym e; window = sym (ap (λ (g : Given (Unit {0})). window_after g w m o) e) }
+  -- one that is refused with r leaves the window
+  pub leaves : (r : Refusal) → add_given w m o ≡ refused (number_of r) → AddedTo w m o (Err r) w
+  leaves r e = record { answer = sym e; window = sym (ap (λ (g : Given (Unit {0})). window_after g w m o) e) }
 
-  pub adds : (v : Window) → v ≡ with_strike w m o → add_given w m o ≡ passed → AddedTo w m o check.Passed v
+  pub adds : (v : Window) → v ≡ with_strike w m o → add_given w m o ≡ passed → AddedTo w m o (Ok tt) v
   adds v ev e = record { answer = sym e; window = rw e ev }
 
 pub counts_remaining : (w : Window) (m n k : ℕ) → n ≡ min w.state.kept MOST → k ≡ remain w.minutes m n (w.state.first % MOST) → k ≡ remaining w m

@@ -1,9 +1,9 @@
 -- Paper 5: what an addition gives and what it leaves, whatever the window holds. On a window that only additions wrote, this is what
 -- `Kept` says of the list of accepted additions (`EveryList`). Definitions only.
-use Rattle.std.specs.Prelude.{ℕ, ◌+◌, ◌-◌, ◌%◌, min, ◌≡◌, leb, ltb, set}
+use Rattle.std.specs.Prelude.{ℕ, ◌+◌, ◌-◌, ◌%◌, min, ◌≡◌, Result, leb, ltb, set}
 use Rattle.answer.specs.Given.{Given, answered, refused, passed, refuse_if}
-use Rattle.answer.specs.Answer.{given_check}
-use Rattle.answer.specs.declared.Check.{Check}
+use Rattle.answer.specs.Answer.{given}
+use Rattle.answer.specs.declared.Refusal.{Refusal}
 pub use Rattle.window_ring.specs.Ring.{next}
 unfoldable pub use Rattle.window_ring.specs.Ring.{lower, raise, remain, lowered}
 use Rattle.window.specs.declared.Window.{Window}
@@ -44,6 +44,6 @@ window_after (refused n) w m o = w
 window_after (answered u) w m o = with_strike w m o
 
 -- an addition to the window w answers a, and leaves v
-pub record AddedTo (w : Window) (m o : ℕ) (a : Check) (v : Window) : Type 0 where
-  pub answer : given_check a ≡ add_given w m o
+pub record AddedTo (w : Window) (m o : ℕ) (a : Result (Unit {0}) Refusal) (v : Window) : Type 0 where
+  pub answer : given a ≡ add_given w m o
   pub window : v ≡ window_after (add_given w m o) w m o
