@@ -17,7 +17,8 @@ use Rattle.window.specs.EveryList.{sum, after}
 use Rattle.window.proofs.Theorem.{every_list}
 use Rattle.sheet_lines.specs.Page.{TITLE, ALL, line, right_aligned, numbered, lines_of, page_of}
 use Rattle.sheet.specs.Sheet.{PAGE, sheet_given, page_after, SheetOf}
-use Rattle.answer.specs.declared.Check.{Check}
+use Rattle.std.specs.Prelude.{Result}
+use Rattle.answer.specs.declared.Refusal.{Refusal}
 use Rattle.sheet.specs.Claims.{columns_at, LaidOut, ReadsBack, EveryPage, SamePage, SameCounts, EverySheet}
 use Rattle.sheet_columns.proofs.Number.{length_aligned, reads_aligned}
 use Rattle.sheet_lines.proofs.Lines.{each_line, row_at, first_long, all_lines}
@@ -72,7 +73,7 @@ prints : (p : List ℕ) → length p ≡ PAGE → sheet_given p ≡ passed
 unfolding sheet_given
 prints p h = rw (eq-eqb (length p) PAGE h)
 
-leaves : (counts p q : List ℕ) (a : Check) → length p ≡ PAGE → SheetOf counts p a q → q ≡ page_of counts
+leaves : (counts p q : List ℕ) (a : Result (Unit {0}) Refusal) → length p ≡ PAGE → SheetOf counts p a q → q ≡ page_of counts
 leaves counts p q a h s = s.page ∙ ap (λ (g : Given (Unit {0})). page_after g counts p) (prints p h)
 
 pub same_page : SamePage

@@ -1,5 +1,5 @@
 -- Paper 13 as claims about a page, for a reader who holds one in hand. Definitions only; `proofs/Theorem` proves them.
-use Rattle.std.specs.Prelude.{ℕ, ◌+◌, ◌*◌, ◌%◌, ◌^◌, ◌<◌, ◌≤◌, ◌≡◌, List, length, get_or, take, drop}
+use Rattle.std.specs.Prelude.{ℕ, ◌+◌, ◌*◌, ◌%◌, ◌^◌, ◌<◌, ◌≤◌, ◌≡◌, List, Result, length, get_or, take, drop}
 use Rattle.decimal.specs.Decimal.{number_in}
 use Rattle.window.specs.Window.{empty_window}
 use Rattle.window.specs.Kept.{Strike, kept, accepted, count}
@@ -7,7 +7,7 @@ use Rattle.window.specs.EveryList.{sum, after}
 use Rattle.window.specs.declared.Window.{Window}
 use Rattle.sheet_lines.specs.Page.{SPACE, NEWLINE, page_of}
 use Rattle.sheet.specs.Sheet.{PAGE, SheetOf}
-use Rattle.answer.specs.declared.Check.{Check}
+use Rattle.answer.specs.declared.Refusal.{Refusal}
 
 -- n bytes of a page from byte c of line l on; lines and bytes are counted from 0, so column 71 is byte 70
 abbrev pub columns_at : List ℕ → ℕ → ℕ → ℕ → List ℕ
@@ -32,7 +32,7 @@ EveryPage = (counts : List ℕ) → LaidOut (page_of counts) × ReadsBack counts
 -- "The window determines all 4,860 bytes": whatever stood on the two pages, windows with the same counts leave the same
 abbrev pub SamePage : Type 0
 SamePage =
-    (v w : Window) (p p' q q' : List ℕ) (a a' : Check) → v.counts ≡ w.counts → length p ≡ PAGE → length p' ≡ PAGE
+    (v w : Window) (p p' q q' : List ℕ) (a a' : Result (Unit {0}) Refusal) → v.counts ≡ w.counts → length p ≡ PAGE → length p' ≡ PAGE
     → SheetOf v.counts p a q → SheetOf w.counts p' a' q' → q ≡ q'
 
 -- and the page determines the twelve counts of 32 bits

@@ -1,8 +1,8 @@
 -- Paper 13: what the call gives and what it leaves. Definitions only.
-use Rattle.std.specs.Prelude.{ℕ, ◌≡◌, not, List, eqb, length}
+use Rattle.std.specs.Prelude.{ℕ, ◌≡◌, not, List, Result, eqb, length}
 use Rattle.answer.specs.Given.{Given, answered, refused, passed, refuse_if}
-use Rattle.answer.specs.Answer.{given_check}
-use Rattle.answer.specs.declared.Check.{Check}
+use Rattle.answer.specs.Answer.{given}
+use Rattle.answer.specs.declared.Refusal.{Refusal}
 use Rattle.sheet_lines.specs.Page.{page_of}
 
 -- 60 lines of 80 columns and a newline
@@ -19,6 +19,6 @@ page_after (refused n) counts page = page
 page_after (answered u) counts page = page_of counts
 
 -- the sheet of these counts on the page p answers a, and leaves q
-pub record SheetOf (counts p : List ℕ) (a : Check) (q : List ℕ) : Type 0 where
-  pub answer : given_check a ≡ sheet_given p
+pub record SheetOf (counts p : List ℕ) (a : Result (Unit {0}) Refusal) (q : List ℕ) : Type 0 where
+  pub answer : given a ≡ sheet_given p
   pub page : q ≡ page_after (sheet_given p) counts p

@@ -7,7 +7,7 @@ ghost use Rattle.std.specs.Prelude.{◌≡◌, length};
 ghost use Rattle.sheet_lines.specs.Page.{page_of};
 ghost use Rattle.sheet.specs.Sheet.{SheetOf};
 
-use answer::{Check, Refusal};
+use answer::Refusal;
 use sheet_lines::write_line;
 use window::Window;
 
@@ -21,27 +21,25 @@ fn write_page(page: &mut [u8], counts: &[u32; 12])
     requires { length page.old ≡ 4860 }
     ensures { page.new ≡ page_of counts.now }
 {
-    let mut place: usize = 0;
-    while place < 60 {
+    for place in 0..60 {
         let at = place * LINE;
         write_line(&mut page[at..at + LINE], place, counts);
-        place += 1;
     }
 }
 
 // The sheet of twelve counts, or 26 and the page as it was.
-pub fn print(counts: [u32; 12], page: &mut [u8]) -> Check
+pub fn print(counts: [u32; 12], page: &mut [u8]) -> Result<(), Refusal>
     ensures { SheetOf counts page.old result page.new }
 {
     if page.len() != PAGE {
-        return Check::Refused(Refusal::PageLength);
+        return Err(Refusal::PageLength);
     }
     write_page(page, &counts);
-    Check::Passed
+    Ok(())
 }
 
 // The sheet of the window that is lent, or 26 and the page as it was. Of the window only the counts are read.
-pub fn sheet(window: &Window, page: &mut [u8]) -> Check
+pub fn sheet(window: &Window, page: &mut [u8]) -> Result<(), Refusal>
     ensures { SheetOf window.now.counts page.old result page.new }
 {
     print(window.counts, page)

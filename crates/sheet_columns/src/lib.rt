@@ -12,7 +12,7 @@ fn column(rest: u64) -> u8
     if rest == 0 {
         return b' ';
     }
-    48 + (rest % 10) as u8
+    b'0' + (rest % 10) as u8
 }
 
 // A number, right-aligned in the columns that are lent.
@@ -20,11 +20,10 @@ pub fn write_number(columns: &mut [u8], n: u64)
     requires { 0 < length columns.old }
     ensures { columns.new ≡ right_aligned (length columns.old) (decimal n) }
 {
-    let mut at = columns.len() - 1;
-    columns[at] = 48 + (n % 10) as u8;
+    let last = columns.len() - 1;
+    columns[last] = b'0' + (n % 10) as u8;
     let mut rest = n / 10;
-    while at > 0 {
-        at -= 1;
+    for at in (0..last).rev() {
         columns[at] = column(rest);
         rest /= 10;
     }
@@ -35,11 +34,7 @@ pub fn write_text(line: &mut [u8], text: &[u8])
     requires { length text.now ≤ length line.old }
     ensures { line.new ≡ text.now ++ drop (length text.now) line.old }
 {
-    let mut i: usize = 0;
-    while i < text.len() {
-        line[i] = text[i];
-        i += 1;
-    }
+    line[..text.len()].copy_from_slice(text);
 }
 
 // A line of spaces.
@@ -47,10 +42,6 @@ pub fn write_blank(line: &mut [u8])
     requires { length line.old ≡ 81 }
     ensures { line.new ≡ blank }
 {
-    let mut i: usize = 0;
-    while i < 80 {
-        line[i] = b' ';
-        i += 1;
-    }
+    line.fill(b' ');
     line[80] = b'\n';
 }

@@ -8,25 +8,11 @@ ghost use Rattle.sheet_lines.specs.Page.{TITLE, ALL, line as Page·line, right_a
 
 use sheet_columns::{write_blank, write_number, write_text};
 
-// A count as a number of 64 bits.
-fn wide(x: u32) -> u64
-    ensures same { result ≡ x }
-    ensures small { result < 4294967296 }
-{
-    x as u64
-}
-
 // The sum of the twelve counts. A u64 holds it.
 fn total(counts: &[u32; 12]) -> u64
     ensures { result ≡ sum (take 12 counts.now) }
 {
-    let mut k: usize = 0;
-    let mut all: u64 = 0;
-    while k < 12 {
-        all += wide(counts[k]);
-        k += 1;
-    }
-    all
+    counts.iter().map(|count| u64::from(*count)).sum()
 }
 
 // The first line.
@@ -63,22 +49,13 @@ pub fn write_line(line: &mut [u8], place: usize, counts: &[u32; 12])
     requires { (length line.old ≡ 81) × (place < 60) }
     ensures { line.new ≡ get_or (lines_of counts.now) place [] }
 {
-    if place == 0 {
-        write_title(line);
-        return;
+    match place {
+        0 => write_title(line),
+        2..=13 => {
+            let k = place - 2;
+            write_row(line, k as u64, u64::from(counts[k]));
+        }
+        14 => write_all(line, total(counts)),
+        _ => write_blank(line),
     }
-    if place == 1 {
-        write_blank(line);
-        return;
-    }
-    if place < 14 {
-        let k = place - 2;
-        write_row(line, k as u64, wide(counts[k]));
-        return;
-    }
-    if place == 14 {
-        write_all(line, total(counts));
-        return;
-    }
-    write_blank(line);
 }

@@ -4,10 +4,10 @@ use mathlib.Core.List.{List}
 use Prim.Native.Nat.{ℕ}
 use borrow.Author.Tests.{eq-eqb, ne_eqb}
 use lib.ListN.{length}
+use Rattle.std.specs.Prelude.{Ok, Err}
 use Rattle.answer.specs.Given.{Given, refused, passed}
 use Rattle.sheet_lines.specs.Page.{page_of}
 use Rattle.sheet.specs.Sheet.{PAGE, sheet_given, page_after, SheetOf}
-use Rattle.answer.specs.declared.Check.TheVariants as check
 use Rattle.answer.specs.declared.Refusal.TheVariants as refusal
 use Rattle.sheet.proofs.print.Goals as goal
 
@@ -20,12 +20,12 @@ module _ (counts page : List ℕ) where
   unfolding sheet_given
   right h = rw (eq-eqb (length page) PAGE h)
 
-  refuses : (length page ≡ PAGE → ⊥) → SheetOf counts page (check.Refused refusal.PageLength) page
+  refuses : (length page ≡ PAGE → ⊥) → SheetOf counts page (Err refusal.PageLength) page
   refuses h =
       let given = wrong h in
       record { answer = sym given; page = sym (ap (λ (g : Given (Unit {0})). page_after g counts page) given) }
 
-  prints : length page ≡ PAGE → (q : List ℕ) → q ≡ page_of counts → SheetOf counts page check.Passed q
+  prints : length page ≡ PAGE → (q : List ℕ) → q ≡ page_of counts → SheetOf counts page (Ok tt) q
   prints h q e =
       let given = right h in
       record { answer = sym given; page = e ∙ sym (ap (λ (g : Given (Unit {0})). page_after g counts page) given) }

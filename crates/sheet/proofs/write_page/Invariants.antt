@@ -1,13 +1,9 @@
--- `sheet::write_page` meets its contract. The loop's invariant: the lines up to `place` stand, and what follows them is as it was; its
--- measure: how many lines are left. Assumes nothing.
+-- `sheet::write_page` meets its contract. The loop's invariant: the lines up to `place` stand, and what follows them is as it was.
+-- Assumes nothing.
 use mathlib.Core.Path.{◌≡◌}
-use Prim.Native.Nat.{◌-◌, ◌≤◌}
 use lib.ListN.{length}
 use Rattle.sheet_lines.proofs.Lines.{up_to}
 use Rattle.sheet.proofs.write_page.Given as goal
 
 abbrev pub invariant-loop-place : goal.invariant-loop-place
-invariant-loop-place l = (l.place ≤ 60) × (length l.page ≡ 4860) × (l.page ≡ up_to l.counts l.initial.page l.place)
-
-abbrev pub decreases-loop-place : goal.decreases-loop-place
-decreases-loop-place l = 60 - l.place
+invariant-loop-place l = (length l.page ≡ 4860) × (l.page ≡ up_to l.counts l.initial.page l.place)

@@ -1,5 +1,5 @@
 -- `write_number` meets its contract. The loop's invariant: the columns of what is left of the number, with those that stand behind them, are all
--- of its columns; its measure: how many columns are left. Assumes nothing.
+-- of its columns. Assumes nothing.
 use mathlib.Core.Path.{◌≡◌, refl, sym, ap, ◌∙◌}
 use mathlib.Core.List.{List, ◌∷◌, ◌++◌}
 use Prim.Native.Nat.{ℕ, suc, ◌-◌, ◌/◌, ◌%◌}

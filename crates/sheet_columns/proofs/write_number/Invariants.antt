@@ -1,5 +1,5 @@
 -- `write_number` meets its contract. The loop's invariant: the columns of what is left of the number, with those that stand behind them, are all
--- of its columns; its measure: how many columns are left. Assumes nothing.
+-- of its columns. Assumes nothing.
 use mathlib.Core.Path.{◌≡◌}
 use mathlib.Core.List.{◌++◌}
 use Prim.Native.Nat.{◌≤◌}
@@ -11,6 +11,3 @@ use Rattle.sheet_columns.proofs.write_number.Given as goal
 
 abbrev pub invariant-loop-at : goal.invariant-loop-at
 invariant-loop-at l = (l.at ≤ length l.initial.columns) × (length l.columns ≡ length l.initial.columns) × (columns_of l.at l.rest ++ drop l.at l.columns ≡ right_aligned (length l.initial.columns) (decimal l.n))
-
-abbrev pub decreases-loop-at : goal.decreases-loop-at
-decreases-loop-at l = l.at
