@@ -1,10 +1,13 @@
 -- From an answer back to the tests before it: where a chain of refusals and calls answered, no test refused and every part answered.
 -- And a chain whose first part is known goes on from there. Assumes nothing.
-use mathlib.Core.Path.{◌≡◌, refl, ap}
-use mathlib.Core.Bool.{Bool, true, false}
+use mathlib.Core.Path.{◌≡◌, refl, sym, ap}
+use mathlib.Core.Bool.{Bool, true, false, true≢false}
 use Prim.Native.Nat.{ℕ}
 use native.Mathlib.Omega.{arith}
+use Rattle.std.specs.Prelude.{Result, Ok, Err, IsErr, IsErrAnd}
 use Rattle.answer.specs.Given.{Given, answered, refused, passed, refuse_if, and_then, bind}
+use Rattle.answer.specs.Answer.{number_of, given}
+use Rattle.answer.specs.declared.Refusal.{Refusal}
 
 module _ {A : Type 0} where
   pub refused_answers_nothing : {X : Type 0} (n : ℕ) (x : A) → refused n ≡ answered x → X
@@ -46,3 +49,8 @@ module _ {A : Type 0} where
 pub then_pass : (a b : Given (Unit {0})) → b ≡ passed → and_then a b ≡ a
 then_pass (answered u) b e = e
 then_pass (refused n) b e = refl
+
+-- what `?` returns gives the refusal that it met
+pub handed_on : {A : Type 0} (r : Result A Refusal) (e : Refusal) → IsErr r × IsErrAnd r (λ f. f ≡ e) → given r ≡ refused (number_of e)
+handed_on (Ok a) e h = absurd (true≢false (sym h.0))
+handed_on (Err f) e h = ap (λ (r : Refusal). refused (number_of r)) h.1

@@ -1,5 +1,4 @@
-// How a call ends: 9 on its answer, and the slots that it used.
+// How a call ends: the slots that it used are written.
 #![tactic(auto)]
 
-pub mod finish;
 pub mod leave;

@@ -3,30 +3,27 @@
 #![tactic(auto)]
 
 ghost use Rattle.std.specs.Prelude.{◌≡◌};
+ghost use Rattle.answer.specs.Answer.{given};
 ghost use Rattle.arithmetic.specs.Arith.{ieee};
-ghost use Rattle.coordinates.specs.Conversions.{given_face, given_spherical, given_lon_lat};
 ghost use Rattle.origin.specs.Origins.{ORIGINS};
 ghost use Rattle.set.specs.Outcome.{lent, lent_shared, Leaves};
-ghost use Rattle.dodecahedron.specs.Place.{given_place};
-ghost use Rattle.dodecahedron.specs.Work.{given_face_work, given_spherical_work, given_place_work, given_lon_lat_work};
 ghost use Rattle.dodecahedron.specs.Calls.{forward_given, inverse_given, place_given, unplace_given, forward_on, inverse_on, place_on, unplace_on};
 
-use answer::Check;
-use call_ends::finish::{finish_face, finish_lon_lat, finish_place, finish_spherical};
-use call_ends::leave::{leave_face, leave_lon_lat, leave_place, leave_spherical};
+use answer::Refusal;
+use call_ends::leave::leave;
 use coordinates::conversions::{
-    FaceAnswer, LonLatAnswer, SphericalAnswer, check_face, check_lon_lat, check_spherical,
+    check_face, check_lon_lat, check_spherical, finite_face, finite_lon_lat, finite_spherical,
 };
 use coordinates::coords::Face;
 use coordinates::lonlat::LonLat;
 use coordinates::spherical::Spherical;
-use dodecahedron::place::PlaceAnswer;
-use dodecahedron::work::{FaceWork, LonLatWork, PlaceWork, SphericalWork};
-use geographic::from_lon_lat;
+use dodecahedron::place::Place;
+use dodecahedron::work::Work;
+use geographic::{from_lon_lat, to_lon_lat};
 use nearest::find_nearest_origin;
 use origin::origin::get_origin;
 use projection_core::{forward_core, inverse_core};
-use set::checks::{check_call, first_refusal};
+use set::checks::check_call;
 use set::set::check_set;
 
 // What forward gives, with nothing written yet.
@@ -36,22 +33,24 @@ fn forward_work(
     sphere_store: &[f64],
     spherical: Spherical,
     origin: u8,
-) -> FaceWork
-    ensures { given_face_work result ≡ forward_given ieee ORIGINS (lent_shared frame face_store sphere_store).entry spherical origin }
+) -> Result<Work<Face>, Refusal>
+    ensures { given result ≡ forward_given ieee ORIGINS (lent_shared frame face_store sphere_store).entry spherical origin }
 {
-    let set = check_call(frame, face_store, sphere_store, origin);
-    let check = first_refusal(set, check_spherical(spherical));
-    if let Check::Refused(n) = check {
-        return FaceWork::Refused(n);
-    }
-    finish_face(forward_core(
+    check_call(frame, face_store, sphere_store, origin)?;
+    check_spherical(spherical)?;
+    let core = forward_core(
         frame,
         face_store,
         sphere_store,
         spherical,
         get_origin(origin),
         origin,
-    ))
+    )?;
+    let answer = finite_face(core.answer)?;
+    Ok(Work {
+        answer,
+        used: core.used,
+    })
 }
 
 // A position on the sphere to a point on an origin's face.
@@ -61,11 +60,11 @@ pub fn forward(
     sphere_store: &mut [f64],
     spherical: Spherical,
     origin: u8,
-) -> FaceAnswer
-    ensures { Leaves (lent frame face_store sphere_store) (given_face result) (λ s. forward_on ieee ORIGINS s spherical origin) }
+) -> Result<Face, Refusal>
+    ensures { Leaves (lent frame face_store sphere_store) (given result) (λ s. forward_on ieee ORIGINS s spherical origin) }
 {
     let work = forward_work(frame, face_store, sphere_store, spherical, origin);
-    leave_face(frame, face_store, sphere_store, work)
+    leave(frame, face_store, sphere_store, work)
 }
 
 // What inverse gives, with nothing written yet.
@@ -75,22 +74,24 @@ fn inverse_work(
     sphere_store: &[f64],
     face: Face,
     origin: u8,
-) -> SphericalWork
-    ensures { given_spherical_work result ≡ inverse_given ieee ORIGINS (lent_shared frame face_store sphere_store).entry face origin }
+) -> Result<Work<Spherical>, Refusal>
+    ensures { given result ≡ inverse_given ieee ORIGINS (lent_shared frame face_store sphere_store).entry face origin }
 {
-    let set = check_call(frame, face_store, sphere_store, origin);
-    let check = first_refusal(set, check_face(face));
-    if let Check::Refused(n) = check {
-        return SphericalWork::Refused(n);
-    }
-    finish_spherical(inverse_core(
+    check_call(frame, face_store, sphere_store, origin)?;
+    check_face(face)?;
+    let core = inverse_core(
         frame,
         face_store,
         sphere_store,
         face,
         get_origin(origin),
         origin,
-    ))
+    )?;
+    let answer = finite_spherical(core.answer)?;
+    Ok(Work {
+        answer,
+        used: core.used,
+    })
 }
 
 // A point on an origin's face back to a position on the sphere.
@@ -100,11 +101,11 @@ pub fn inverse(
     sphere_store: &mut [f64],
     face: Face,
     origin: u8,
-) -> SphericalAnswer
-    ensures { Leaves (lent frame face_store sphere_store) (given_spherical result) (λ s. inverse_on ieee ORIGINS s face origin) }
+) -> Result<Spherical, Refusal>
+    ensures { Leaves (lent frame face_store sphere_store) (given result) (λ s. inverse_on ieee ORIGINS s face origin) }
 {
     let work = inverse_work(frame, face_store, sphere_store, face, origin);
-    leave_spherical(frame, face_store, sphere_store, work)
+    leave(frame, face_store, sphere_store, work)
 }
 
 // What place gives, with nothing written yet.
@@ -113,14 +114,11 @@ pub fn place_work(
     face_store: &[f64],
     sphere_store: &[f64],
     lonlat: LonLat,
-) -> PlaceWork
-    ensures { given_place_work result ≡ place_given ieee ORIGINS (lent_shared frame face_store sphere_store).entry lonlat }
+) -> Result<Work<Place>, Refusal>
+    ensures { given result ≡ place_given ieee ORIGINS (lent_shared frame face_store sphere_store).entry lonlat }
 {
-    let set = check_set(frame, face_store, sphere_store);
-    let check = first_refusal(set, check_lon_lat(lonlat));
-    if let Check::Refused(n) = check {
-        return PlaceWork::Refused(n);
-    }
+    check_set(frame, face_store, sphere_store)?;
+    check_lon_lat(lonlat)?;
     let spherical = from_lon_lat(lonlat);
     let origin = find_nearest_origin(spherical);
     let core = forward_core(
@@ -130,8 +128,12 @@ pub fn place_work(
         spherical,
         get_origin(origin),
         origin,
-    );
-    finish_place(origin, core)
+    )?;
+    let face = finite_face(core.answer)?;
+    Ok(Work {
+        answer: Place { origin, face },
+        used: core.used,
+    })
 }
 
 // A longitude and a latitude to a point on the nearest origin's face.
@@ -140,11 +142,11 @@ pub fn place(
     face_store: &mut [f64],
     sphere_store: &mut [f64],
     lonlat: LonLat,
-) -> PlaceAnswer
-    ensures { Leaves (lent frame face_store sphere_store) (given_place result) (λ s. place_on ieee ORIGINS s lonlat) }
+) -> Result<Place, Refusal>
+    ensures { Leaves (lent frame face_store sphere_store) (given result) (λ s. place_on ieee ORIGINS s lonlat) }
 {
     let work = place_work(frame, face_store, sphere_store, lonlat);
-    leave_place(frame, face_store, sphere_store, work)
+    leave(frame, face_store, sphere_store, work)
 }
 
 // What unplace gives, with nothing written yet.
@@ -154,22 +156,24 @@ fn unplace_work(
     sphere_store: &[f64],
     face: Face,
     origin: u8,
-) -> LonLatWork
-    ensures { given_lon_lat_work result ≡ unplace_given ieee ORIGINS (lent_shared frame face_store sphere_store).entry face origin }
+) -> Result<Work<LonLat>, Refusal>
+    ensures { given result ≡ unplace_given ieee ORIGINS (lent_shared frame face_store sphere_store).entry face origin }
 {
-    let set = check_call(frame, face_store, sphere_store, origin);
-    let check = first_refusal(set, check_face(face));
-    if let Check::Refused(n) = check {
-        return LonLatWork::Refused(n);
-    }
-    finish_lon_lat(inverse_core(
+    check_call(frame, face_store, sphere_store, origin)?;
+    check_face(face)?;
+    let core = inverse_core(
         frame,
         face_store,
         sphere_store,
         face,
         get_origin(origin),
         origin,
-    ))
+    )?;
+    let answer = finite_lon_lat(to_lon_lat(core.answer))?;
+    Ok(Work {
+        answer,
+        used: core.used,
+    })
 }
 
 // A point on an origin's face back to a longitude and a latitude.
@@ -179,9 +183,9 @@ pub fn unplace(
     sphere_store: &mut [f64],
     face: Face,
     origin: u8,
-) -> LonLatAnswer
-    ensures { Leaves (lent frame face_store sphere_store) (given_lon_lat result) (λ s. unplace_on ieee ORIGINS s face origin) }
+) -> Result<LonLat, Refusal>
+    ensures { Leaves (lent frame face_store sphere_store) (given result) (λ s. unplace_on ieee ORIGINS s face origin) }
 {
     let work = unplace_work(frame, face_store, sphere_store, face, origin);
-    leave_lon_lat(frame, face_store, sphere_store, work)
+    leave(frame, face_store, sphere_store, work)
 }

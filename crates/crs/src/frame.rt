@@ -21,6 +21,7 @@ fn near(point: Cartesian, vertex: Cartesian) -> bool
 }
 
 // The first row of a frame that is near the point, or 8.
+#[tactic(auto, unfolding(crate::specs::Frame::find_vertex))]
 pub fn get_vertex(frame: &[f64], point: Cartesian) -> Result<Cartesian, Refusal>
     ensures { given result ≡ find_vertex ieee frame.now point }
 {

@@ -28,7 +28,8 @@ use Rattle.triangles.specs.Taken.{used_for}
 use Rattle.triangles.proofs.Within.{answered_same, used_within}
 use Rattle.triangles.proofs.Uses.{UsedOn, used_on}
 use Rattle.dodecahedron.specs.Place.{finite_place}
-use Rattle.dodecahedron.specs.Work.{Work, used_of, set_used, set_used_if_there, finish}
+use Rattle.dodecahedron.specs.Work.{used_of, set_used, set_used_if_there, finish}
+use Rattle.dodecahedron.specs.declared.work.Work.{Work}
 use Rattle.dodecahedron.specs.Projection.{forward_core, inverse_core}
 use Rattle.dodecahedron.specs.Calls.{forward_given, inverse_given, place_given, unplace_given}
 use Rattle.dodecahedron.specs.declared.place.Place.{Place}

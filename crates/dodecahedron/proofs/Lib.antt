@@ -1,4 +1,5 @@
 -- Laws behind the proofs of the functions.
 pub mod Worked
 pub mod Ended
+pub mod Steps
 pub mod Sizes

@@ -12,7 +12,7 @@ use Rattle.coordinates.specs.declared.spherical.Spherical.{Spherical}
 use Rattle.coordinates.proofs.Sizes.{spherical_colatitude}
 use Rattle.origin.specs.declared.utils.Origin.{Origin}
 use Rattle.set.specs.Set.{Set}
-use Rattle.dodecahedron.specs.Work.{Work}
+use Rattle.dodecahedron.specs.declared.work.Work.{Work}
 use Rattle.dodecahedron.specs.Projection.{inverse_core}
 use Rattle.dodecahedron.proofs.Worked.{inverse_point}
 

@@ -17,7 +17,7 @@ use Rattle.stores.specs.declared.used.Used.{Used}
 use Rattle.triangles.specs.Taken.{face_for, used_for, taken_for}
 use Rattle.triangles.specs.declared.taken.Taken.{Taken}
 use Rattle.triangles.proofs.Within.{answered_same, taken_is}
-use Rattle.dodecahedron.specs.Work.{Work}
+use Rattle.dodecahedron.specs.declared.work.Work.{Work}
 use Rattle.dodecahedron.specs.Projection.{frame_constants, polar_about, forward_core, inverse_core}
 
 module _ (A : Arith) (origin : Origin) (s : Set) (o : ℕ) where

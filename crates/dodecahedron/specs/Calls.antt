@@ -17,7 +17,8 @@ use Rattle.set.specs.Set.{Set, check_set}
 use Rattle.set.specs.Checks.{check_origin}
 use Rattle.set.specs.Outcome.{Outcome}
 use Rattle.dodecahedron.specs.Place.{finite_place}
-use Rattle.dodecahedron.specs.Work.{Work, outcome, finish}
+use Rattle.dodecahedron.specs.Work.{outcome, finish}
+use Rattle.dodecahedron.specs.declared.work.Work.{Work}
 use Rattle.dodecahedron.specs.Projection.{forward_core, inverse_core}
 use Rattle.dodecahedron.specs.declared.place.Place.{Place}
 

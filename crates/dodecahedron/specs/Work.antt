@@ -1,28 +1,11 @@
 -- What a call works out, and what it comes to: its answer and the set that it leaves. Definitions only.
 use Rattle.answer.specs.Given.{Given, answered, refused, bind}
-use Rattle.answer.specs.Answer.{number_of}
 use Rattle.arithmetic.specs.Arith.{Arith}
-use Rattle.coordinates.specs.declared.coords.Face.{Face}
-use Rattle.coordinates.specs.declared.lonlat.LonLat.{LonLat}
-use Rattle.coordinates.specs.declared.spherical.Spherical.{Spherical}
 use Rattle.set.specs.Set.{Set}
 use Rattle.set.specs.Outcome.{Outcome}
 use Rattle.stores.specs.Used.{used_written, written_if_there}
 use Rattle.stores.specs.declared.used.Used.{Used}
-use Rattle.dodecahedron.specs.declared.place.Place.{Place}
-use Rattle.dodecahedron.specs.declared.work.FaceWork.{FaceWork}
-use Rattle.dodecahedron.specs.declared.work.FaceWork.TheVariants as face-work
-use Rattle.dodecahedron.specs.declared.work.SphericalWork.{SphericalWork}
-use Rattle.dodecahedron.specs.declared.work.SphericalWork.TheVariants as spherical-work
-use Rattle.dodecahedron.specs.declared.work.PlaceWork.{PlaceWork}
-use Rattle.dodecahedron.specs.declared.work.PlaceWork.TheVariants as place-work
-use Rattle.dodecahedron.specs.declared.work.LonLatWork.{LonLatWork}
-use Rattle.dodecahedron.specs.declared.work.LonLatWork.TheVariants as lonlat-work
-
--- what an answered call answers, and the slots that it uses with the sphere triangle that it took
-pub record Work (X : Type 0) : Type 0 where
-  pub answer : X
-  pub used : Used
+use Rattle.dodecahedron.specs.declared.work.Work.{Work}
 
 -- ---- a call's answer, and the set afterwards
 
@@ -57,21 +40,3 @@ finish core f =
     bind core λ w.
     bind (f w.answer) λ y.
     answered (record { answer = y; used = w.used })
-
--- ---- the code's enums
-
-abbrev pub given_face_work : FaceWork → Given (Work Face)
-given_face_work (face-work.Done w) = answered (record { answer = w.answer; used = w.used })
-given_face_work (face-work.Refused n) = refused (number_of n)
-
-abbrev pub given_spherical_work : SphericalWork → Given (Work Spherical)
-given_spherical_work (spherical-work.Done w) = answered (record { answer = w.answer; used = w.used })
-given_spherical_work (spherical-work.Refused n) = refused (number_of n)
-
-abbrev pub given_place_work : PlaceWork → Given (Work Place)
-given_place_work (place-work.Done w) = answered (record { answer = w.answer; used = w.used })
-given_place_work (place-work.Refused n) = refused (number_of n)
-
-abbrev pub given_lon_lat_work : LonLatWork → Given (Work LonLat)
-given_lon_lat_work (lonlat-work.Done w) = answered (record { answer = w.answer; used = w.used })
-given_lon_lat_work (lonlat-work.Refused n) = refused (number_of n)

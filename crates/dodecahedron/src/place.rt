@@ -1,5 +1,4 @@
-// Place's answer.
-use answer::Refusal;
+// What place answers.
 use coordinates::coords::Face;
 
 // A face point and the id of the origin whose face it lies on.
@@ -7,10 +6,4 @@ use coordinates::coords::Face;
 pub struct Place {
     pub origin: u8,
     pub face: Face,
-}
-
-#[derive(Clone, Copy)]
-pub enum PlaceAnswer {
-    Answered(Place),
-    Refused(Refusal),
 }

@@ -36,7 +36,8 @@ use Rattle.stores.specs.declared.used.Used.{Used}
 use Rattle.triangles.specs.Triangles.{cross_taken}
 use Rattle.triangles.specs.Taken.{face_for, used_for}
 use Rattle.dodecahedron.specs.Place.{finite_place}
-use Rattle.dodecahedron.specs.Work.{Work, finish}
+use Rattle.dodecahedron.specs.Work.{finish}
+use Rattle.dodecahedron.specs.declared.work.Work.{Work}
 use Rattle.dodecahedron.specs.Projection.{frame_constants, polar_about, forward_core, inverse_core}
 use Rattle.dodecahedron.specs.Calls.{forward_given, inverse_given, place_given, unplace_given}
 use Rattle.dodecahedron.proofs.Ended.{tests_on, forward_is, inverse_is, place_is, unplace_is}

@@ -10,7 +10,8 @@ use Rattle.coordinates.specs.declared.coords.Face.{Face}
 use Rattle.coordinates.specs.declared.lonlat.LonLat.{LonLat}
 use Rattle.set.specs.Open.{open_given}
 use Rattle.set.specs.Set.{Set}
-use Rattle.dodecahedron.specs.Work.{Work, used_of}
+use Rattle.dodecahedron.specs.Work.{used_of}
+use Rattle.dodecahedron.specs.declared.work.Work.{Work}
 use Rattle.dodecahedron.specs.Calls.{unplace_given}
 use Rattle.histories.specs.Lists.{unplaces, uses, alone}
 use Rattle.histories.specs.EveryList.{opened, left}

@@ -26,7 +26,8 @@ use Rattle.triangles.specs.Taken.{used_for}
 use Rattle.triangles.proofs.Within.{answered_same}
 use Rattle.triangles.proofs.Uses as any
 use Rattle.dodecahedron.specs.Place.{finite_place}
-use Rattle.dodecahedron.specs.Work.{Work, used_of, set_used, finish}
+use Rattle.dodecahedron.specs.Work.{used_of, set_used, finish}
+use Rattle.dodecahedron.specs.declared.work.Work.{Work}
 use Rattle.dodecahedron.specs.Calls.{place_given, unplace_given}
 use Rattle.place_list.specs.Lists.{check_list}
 use Rattle.place_list.specs.Uses.{counted, used_in_turn, used_by_list}

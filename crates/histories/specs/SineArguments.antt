@@ -21,7 +21,7 @@ use Rattle.origin.specs.Constants.{5·0, PI_OVER_5, TWO_PI_OVER_5, INTERHEDRAL_A
 use Rattle.origin.specs.Origins.{origin_at}
 use Rattle.tiling.specs.Index.{normalize_gamma}
 use Rattle.set.specs.Set.{Set}
-use Rattle.dodecahedron.specs.Work.{Work}
+use Rattle.dodecahedron.specs.declared.work.Work.{Work}
 use Rattle.dodecahedron.specs.Projection.{inverse_core}
 open ieee use {◌⊕◌, ◌⊖◌, ◌⊗◌, ◌⊘◌, whole}
 

@@ -5,7 +5,7 @@
 #![tactic(auto)]
 
 ghost use Rattle.std.specs.Prelude.{◌≡◌};
-ghost use Rattle.answer.specs.Answer.{given_check};
+ghost use Rattle.answer.specs.Answer.{given};
 ghost use Rattle.arithmetic.specs.Arith.{ieee};
 ghost use Rattle.origin.specs.Origins.{ORIGINS};
 ghost use Rattle.set.specs.Outcome.{lent, lent_shared};
@@ -40,7 +40,7 @@ fn check_list(
     positions: usize,
     results: usize,
 ) -> Check
-    ensures { given_check result ≡ check_list ieee ORIGINS (lent_shared frame face_store sphere_store).entry positions results }
+    ensures { given result ≡ check_list ieee ORIGINS (lent_shared frame face_store sphere_store).entry positions results }
 {
     first_refusal(
         check_set(frame, face_store, sphere_store),
@@ -57,7 +57,7 @@ pub fn place_list(
     positions: &[LonLat],
     results: &mut [PlaceResult],
 ) -> Check
-    ensures { called (given_check result) results.new (lent frame face_store sphere_store).exit
+    ensures { called (given result) results.new (lent frame face_store sphere_store).exit
         ≡ place_list_on ieee ORIGINS (lent frame face_store sphere_store).entry positions.now results.old }
 {
     let check = check_list(

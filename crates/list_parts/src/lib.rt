@@ -3,8 +3,7 @@
 #![tactic(auto)]
 
 ghost use Rattle.std.specs.Prelude.{◌≡◌};
-ghost use Rattle.answer.specs.Answer.{given_check};
-ghost use Rattle.dodecahedron.specs.Place.{given_place};
+ghost use Rattle.answer.specs.Answer.{given};
 ghost use Rattle.place_list.specs.Lists.{result_of, check_counts, turns_of};
 
 use answer::{Check, Refusal};
@@ -13,7 +12,7 @@ use place_list::PlaceResult;
 
 // What place gave, as a result.
 pub fn result(given: PlaceAnswer) -> PlaceResult
-    ensures { result ≡ result_of (given_place given) }
+    ensures { result ≡ result_of (given given) }
 {
     match given {
         PlaceAnswer::Answered(p) => PlaceResult {
@@ -36,7 +35,7 @@ pub fn result(given: PlaceAnswer) -> PlaceResult
 
 // 14: there is a result for each position.
 pub fn check_counts(positions: usize, results: usize) -> Check
-    ensures { given_check result ≡ check_counts positions results }
+    ensures { given result ≡ check_counts positions results }
 {
     if positions != results {
         return Check::Refused(Refusal::ResultCount);
@@ -46,7 +45,7 @@ pub fn check_counts(positions: usize, results: usize) -> Check
 
 // How many positions are placed: all of them, or none by a call that is refused.
 pub fn turns(check: Check, positions: usize) -> usize
-    ensures { result ≡ turns_of (given_check check) positions }
+    ensures { result ≡ turns_of (given check) positions }
 {
     match check {
         Check::Passed => positions,

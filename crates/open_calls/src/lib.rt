@@ -4,7 +4,8 @@
 ghost use Rattle.arithmetic.specs.Arith.{ieee};
 ghost use Rattle.origin.specs.Origins.{ORIGINS};
 ghost use Rattle.set.specs.Outcome.{lent_mut, Leaves};
-ghost use Rattle.set.specs.Open.{given_open, open_on};
+ghost use Rattle.answer.specs.Answer.{given};
+ghost use Rattle.set.specs.Open.{open_on};
 
 use answer::Check;
 use new_set::open_checked;
@@ -15,7 +16,7 @@ use set::set::check_set;
 
 // Opens a set with the built-in table, which needs no check, or refuses with 1, 2, 3 or 7.
 pub fn open(frame: &mut [f64], face_store: &mut [f64], sphere_store: &mut [f64]) -> OpenAnswer
-    ensures { Leaves (lent_mut frame face_store sphere_store) (given_open result) (open_on ieee ORIGINS) }
+    ensures { Leaves (lent_mut frame face_store sphere_store) (given result) (open_on ieee ORIGINS) }
 {
     let check = check_set(frame, face_store, sphere_store);
     if let Check::Refused(n) = check {
@@ -32,7 +33,7 @@ pub fn open_with(
     face_store: &mut [f64],
     sphere_store: &mut [f64],
 ) -> OpenAnswer
-    ensures { Leaves (lent_mut frame face_store sphere_store) (given_open result) (open_on ieee table) }
+    ensures { Leaves (lent_mut frame face_store sphere_store) (given result) (open_on ieee table) }
 {
     let check = check_with(&table, frame, face_store, sphere_store);
     if let Check::Refused(n) = check {

@@ -27,7 +27,8 @@ use Rattle.equal_area.specs.EqualArea.{CORNER_MARGIN, is_odd, at_angle, inside, 
 use Rattle.equal_area.specs.declared.equal_area.TriangleConstants.{TriangleConstants}
 use Rattle.set.specs.Checks.{check_origin}
 use Rattle.dodecahedron.specs.Place.{finite_place}
-use Rattle.dodecahedron.specs.Work.{Work, answer_of, used_of, finish}
+use Rattle.dodecahedron.specs.Work.{answer_of, used_of, finish}
+use Rattle.dodecahedron.specs.declared.work.Work.{Work}
 use Rattle.frame_data.specs.Claims.{Answers}
 use Rattle.place_list.specs.Lists.{check_counts}
 use Rattle.place_list.specs.declared.PlaceResult.{PlaceResult}

@@ -2,7 +2,7 @@
 #![tactic(auto)]
 
 ghost use Rattle.std.specs.Prelude.{◌≡◌, length};
-ghost use Rattle.answer.specs.Answer.{given_check};
+ghost use Rattle.answer.specs.Answer.{given};
 ghost use Rattle.arithmetic.specs.Arith.{ieee};
 ghost use Rattle.origin.specs.Origins.{ORIGINS};
 ghost use Rattle.set.specs.Outcome.{lent};
@@ -83,7 +83,7 @@ pub fn step(
     sphere_store: &mut [f64],
     block: &mut [u8],
 ) -> Check
-    ensures { Steps (lent frame face_store sphere_store) (lent_bytes block) (given_check result) (step_on ieee ORIGINS) }
+    ensures { Steps (lent frame face_store sphere_store) (lent_bytes block) (given result) (step_on ieee ORIGINS) }
 {
     let check = first_refusal(
         check_block(block),

@@ -17,7 +17,8 @@ use Rattle.stores.specs.Used.{face_written, faces_written, sphere_written, used_
 use Rattle.stores.specs.declared.used.Used.{Used}
 use Rattle.stores.proofs.Written.{written_length}
 use Rattle.stores.proofs.Within.{face_below, source_below, sphere_below, has_slots_lem}
-use Rattle.dodecahedron.specs.Work.{Work, used_of, set_used}
+use Rattle.dodecahedron.specs.Work.{used_of, set_used}
+use Rattle.dodecahedron.specs.declared.work.Work.{Work}
 use Rattle.dodecahedron.specs.Calls.{place_given, place_on}
 use Rattle.dodecahedron.specs.declared.place.Place.{Place}
 use Rattle.dodecahedron.proofs.Ended.{place_there}

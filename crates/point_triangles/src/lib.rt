@@ -3,14 +3,15 @@
 
 ghost use Rattle.std.specs.Prelude.{◌≡◌, false};
 ghost use Rattle.answer.specs.Given.{passed};
+ghost use Rattle.answer.specs.Answer.{given};
 ghost use Rattle.arithmetic.specs.Arith.{ieee};
 ghost use Rattle.elementary.specs.Sine.{beyond};
 ghost use Rattle.coordinates.specs.Constants.{8·0};
 ghost use Rattle.set.specs.Checks.{check_call};
 ghost use Rattle.set.specs.Outcome.{held, lent_shared};
-ghost use Rattle.triangles.specs.Taken.{given_used, given_taken, used_for, taken_for};
+ghost use Rattle.triangles.specs.Taken.{used_for, taken_for};
 
-use answer::Check;
+use answer::Refusal;
 use coordinates::polar::Polar;
 use origin::utils::Origin;
 use set::checks::check_call;
@@ -18,8 +19,8 @@ use sphere_triangles::{take_cross, take_sphere};
 use stores::slots::{face_slot, source_slot, sphere_slot};
 use stores::used::Used;
 use triangle_index::{get_face_triangle_index, should_reflect};
-use triangles::taken::{Taken, TakenAnswer, UsedAnswer};
-use triangles::triangles::{TriangleAnswer, take_face};
+use triangles::taken::Taken;
+use triangles::triangles::take_face;
 
 // The sphere triangle of a point about an origin's axis with b × c, and the slots that it is taken by.
 fn take_used(
@@ -29,27 +30,23 @@ fn take_used(
     origin: Origin,
     id: u8,
     polar: Polar,
-) -> UsedAnswer
+) -> Result<Used, Refusal>
     requires { (check_call (held frame face_store sphere_store) id ≡ passed) × (beyond 8·0 origin.angle.0 ≡ false) }
-    ensures { given_used result ≡ used_for ieee origin (lent_shared frame face_store sphere_store).entry id polar }
+    ensures { given result ≡ used_for ieee origin (lent_shared frame face_store sphere_store).entry id polar }
 {
     let index = get_face_triangle_index(polar) as u8;
     let reflected = should_reflect(polar);
     let slot = sphere_slot(id, index, reflected);
     let source = source_slot(index, reflected);
-    match take_sphere(frame, face_store, sphere_store, origin, slot, source) {
-        TriangleAnswer::Refused(n) => UsedAnswer::Refused(n),
-        TriangleAnswer::Answered(triangle) => {
-            let bxc = take_cross(sphere_store, slot, triangle);
-            UsedAnswer::Answered(Used {
-                origin: id,
-                index,
-                reflected,
-                triangle,
-                bxc,
-            })
-        }
-    }
+    let triangle = take_sphere(frame, face_store, sphere_store, origin, slot, source)?;
+    let bxc = take_cross(sphere_store, slot, triangle);
+    Ok(Used {
+        origin: id,
+        index,
+        reflected,
+        triangle,
+        bxc,
+    })
 }
 
 // The triangles of a point about an origin's axis, on any set: 1 to 4 are tried here too, so that
@@ -61,22 +58,15 @@ pub fn take(
     origin: Origin,
     id: u8,
     polar: Polar,
-) -> TakenAnswer
+) -> Result<Taken, Refusal>
     requires { beyond 8·0 origin.angle.0 ≡ false }
-    ensures { given_taken result ≡ taken_for ieee origin (lent_shared frame face_store sphere_store).entry id polar }
+    ensures { given result ≡ taken_for ieee origin (lent_shared frame face_store sphere_store).entry id polar }
 {
-    let set = check_call(frame, face_store, sphere_store, id);
-    if let Check::Refused(n) = set {
-        return TakenAnswer::Refused(n);
-    }
-    match take_used(frame, face_store, sphere_store, origin, id, polar) {
-        UsedAnswer::Refused(n) => TakenAnswer::Refused(n),
-        UsedAnswer::Answered(used) => {
-            let face_triangle = take_face(face_store, face_slot(used.index, used.reflected));
-            TakenAnswer::Answered(Taken {
-                used,
-                face_triangle,
-            })
-        }
-    }
+    check_call(frame, face_store, sphere_store, id)?;
+    let used = take_used(frame, face_store, sphere_store, origin, id, polar)?;
+    let face_triangle = take_face(face_store, face_slot(used.index, used.reflected));
+    Ok(Taken {
+        used,
+        face_triangle,
+    })
 }

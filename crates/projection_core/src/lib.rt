@@ -4,27 +4,27 @@
 
 ghost use Rattle.std.specs.Prelude.{◌≡◌, false, ◌+◌, ◌*◌, ◌≤◌, length};
 ghost use Rattle.answer.specs.Given.{passed};
+ghost use Rattle.answer.specs.Answer.{given};
 ghost use Rattle.arithmetic.specs.Arith.{ieee};
 ghost use Rattle.elementary.specs.Sine.{beyond, outside};
 ghost use Rattle.coordinates.specs.Constants.{8·0};
 ghost use Rattle.set.specs.Sizes.{FRAME};
 ghost use Rattle.set.specs.Checks.{check_call};
 ghost use Rattle.set.specs.Outcome.{held, lent_shared};
-ghost use Rattle.dodecahedron.specs.Work.{given_face_work, given_spherical_work};
 ghost use Rattle.dodecahedron.specs.Projection.{row_at, frame_constants, polar_about, forward_core, inverse_core};
 
+use answer::Refusal;
 use coordinates::base::Radians;
 use coordinates::coords::{Cartesian, Face, SphericalTriangle};
 use coordinates::polar::Polar;
 use coordinates::spherical::Spherical;
 use coordinates::vec3::Vec3;
-use dodecahedron::work::{FaceDone, FaceWork, SphericalDone, SphericalWork};
-use equal_area::equal_area::{PointAnswer, TriangleConstants};
+use dodecahedron::work::Work;
+use equal_area::equal_area::TriangleConstants;
 use origin::utils::Origin;
 use plane::to_polar;
 use point_triangles::take;
 use transforms::coordinate_transforms::{to_cartesian, to_spherical};
-use triangles::taken::TakenAnswer;
 
 // Row k of a frame.
 fn row(frame: &[f64], k: usize) -> Cartesian
@@ -75,28 +75,23 @@ pub fn forward_core(
     spherical: Spherical,
     origin: Origin,
     id: u8,
-) -> FaceWork
+) -> Result<Work<Face>, Refusal>
     requires id_value { (check_call (held frame face_store sphere_store) id ≡ passed) × (beyond 8·0 origin.angle.0 ≡ false) }
     requires theta_value { (outside spherical.theta.0 ≡ false) × (outside spherical.phi.0 ≡ false) }
-    ensures { given_face_work result ≡ forward_core ieee origin (lent_shared frame face_store sphere_store).entry spherical id }
+    ensures { given result ≡ forward_core ieee origin (lent_shared frame face_store sphere_store).entry spherical id }
 {
     let unprojected = to_cartesian(spherical);
     let polar = polar_about(origin, unprojected);
-    match take(frame, face_store, sphere_store, origin, id, polar) {
-        TakenAnswer::Refused(n) => FaceWork::Refused(n),
-        TakenAnswer::Answered(taken) => {
-            let used = taken.used;
-            let constants = frame_constants(frame);
-            let answer = equal_area_forward::forward(
-                constants,
-                unprojected,
-                used.triangle,
-                used.bxc,
-                taken.face_triangle,
-            );
-            FaceWork::Done(FaceDone { answer, used })
-        }
-    }
+    let taken = take(frame, face_store, sphere_store, origin, id, polar)?;
+    let used = taken.used;
+    let answer = equal_area_forward::forward(
+        frame_constants(frame),
+        unprojected,
+        used.triangle,
+        used.bxc,
+        taken.face_triangle,
+    );
+    Ok(Work { answer, used })
 }
 
 // Inverse on a set that passes 1 to 4: the triangles of the point, and the point back from one to
@@ -108,28 +103,18 @@ pub fn inverse_core(
     face: Face,
     origin: Origin,
     id: u8,
-) -> SphericalWork
+) -> Result<Work<Spherical>, Refusal>
     requires { (check_call (held frame face_store sphere_store) id ≡ passed) × (beyond 8·0 origin.angle.0 ≡ false) }
-    ensures { given_spherical_work result ≡ inverse_core ieee origin (lent_shared frame face_store sphere_store).entry face id }
+    ensures { given result ≡ inverse_core ieee origin (lent_shared frame face_store sphere_store).entry face id }
 {
-    match take(frame, face_store, sphere_store, origin, id, to_polar(face)) {
-        TakenAnswer::Refused(n) => SphericalWork::Refused(n),
-        TakenAnswer::Answered(taken) => {
-            let used = taken.used;
-            let constants = frame_constants(frame);
-            let point = equal_area::equal_area::inverse(
-                constants,
-                face,
-                taken.face_triangle,
-                used.triangle,
-            );
-            match point {
-                PointAnswer::Refused(n) => SphericalWork::Refused(n),
-                PointAnswer::Answered(unprojected) => {
-                    let answer = to_spherical(unprojected);
-                    SphericalWork::Done(SphericalDone { answer, used })
-                }
-            }
-        }
-    }
+    let taken = take(frame, face_store, sphere_store, origin, id, to_polar(face))?;
+    let used = taken.used;
+    let unprojected = equal_area::equal_area::inverse(
+        frame_constants(frame),
+        face,
+        taken.face_triangle,
+        used.triangle,
+    )?;
+    let answer = to_spherical(unprojected);
+    Ok(Work { answer, used })
 }

@@ -25,7 +25,8 @@ use Rattle.place_list.specs.Lists.{Placed, placed_in_turn, check_counts}
 use Rattle.region_work.specs.declared.region.Region.{Region}
 use Rattle.region_work.specs.declared.region.RegionAnswer.{RegionAnswer}
 use Rattle.region_core.specs.declared.work.RegionWork.{RegionWork}
-use Rattle.region_work.specs.Region.{given_region, check_positions, first_failing, check_origins, region_of, RegionCalled, region_called, region_left, region_given, region_on}
+use Rattle.answer.specs.Answer.{given}
+use Rattle.region_work.specs.Region.{check_positions, first_failing, check_origins, region_of, RegionCalled, region_called, region_left, region_given, region_on}
 use Rattle.region_work.specs.Parts.{Worked, worked, count_of, region_worked}
 use Rattle.region_copies.specs.Copies.{CopiedIn, written_out}
 
@@ -119,13 +120,13 @@ module _ (table : List Float) (s : Set) (ps : List LonLat) (rs : List Face) wher
 
   module _ (s' : Set) (w : RegionWork) where
     abbrev Ends : List Face → RegionCalled
-    Ends l = region_called (given_region w.answer) l s'
+    Ends l = region_called (given w.answer) l s'
 
     abbrev Left : Given Region → RegionCalled
     Left g = region_left g (in_turn ps) rs s
 
     all_written : (g : Given Region) → given ps ≡ g
-        → worked (given_region w.answer) w.count (take w.count w.points) s' ≡ Refuses g → Ends (written_out rs w.points w.count) ≡ Left g
+        → worked (given w.answer) w.count (take w.count w.points) s' ≡ Refuses g → Ends (written_out rs w.points w.count) ≡ Left g
     all_written (answered r) e says =
         let count : w.count ≡ length ps = ap (λ (k : Worked). k.count) says in
         ap Ends (ap (written_out rs w.points) count ∙ all_places w.points (fits r e) ∙ ap (λ (k : ℕ). take k w.points) (sym count))
@@ -138,13 +139,13 @@ module _ (table : List Float) (s : Set) (ps : List LonLat) (rs : List Face) wher
 pub regioned : (table : List Float) (s s' : Set) (ps : List LonLat) (rs : List Face) (xs : List LonLat) (w : RegionWork) (r : RegionAnswer) (pts : List Face)
     (n : ℕ) (p' : List Face)
     → CopiedIn ps xs
-    → worked (given_region w.answer) w.count (take w.count w.points) s'
+    → worked (given w.answer) w.count (take w.count w.points) s'
     ≡ region_worked ieee table s (take (length ps) xs) (length ps) (length rs)
     → r ≡ w.answer → pts ≡ w.points → n ≡ w.count → p' ≡ written_out rs pts n
-    → region_called (given_region r) p' s' ≡ region_on ieee table s ps rs
+    → region_called (given r) p' s' ≡ region_on ieee table s ps rs
 unfolding region_worked
 regioned table s s' ps rs xs w r pts n p' copied says er ep en ew =
-    ap (λ (a : RegionAnswer). region_called (given_region a) p' s') er
-    ∙ ap (λ (l : List Face). region_called (given_region w.answer) l s')
+    ap (λ (a : RegionAnswer). region_called (given a) p' s') er
+    ∙ ap (λ (l : List Face). region_called (given w.answer) l s')
     (ew ∙ ap (λ (l : List Face). written_out rs l n) ep ∙ ap (λ (k : ℕ). written_out rs w.points k) en)
     ∙ all_written table s ps rs s' w (region_given ieee table s ps (length ps) (length rs)) refl (says ∙ same_call table s ps rs (take (length ps) xs) copied)

@@ -6,7 +6,8 @@ ghost use Rattle.std.specs.Prelude.{◌≡◌};
 ghost use Rattle.arithmetic.specs.Arith.{ieee};
 ghost use Rattle.origin.specs.Origins.{ORIGINS};
 ghost use Rattle.set.specs.Outcome.{lent};
-ghost use Rattle.region_work.specs.Region.{given_region, region_called, region_on};
+ghost use Rattle.answer.specs.Answer.{given};
+ghost use Rattle.region_work.specs.Region.{region_called, region_on};
 
 use coordinates::coords::Face;
 use coordinates::lonlat::LonLat;
@@ -24,7 +25,7 @@ pub fn region(
     positions: &[LonLat],
     points: &mut [Face],
 ) -> RegionAnswer
-    ensures { region_called (given_region result) points.new (lent frame face_store sphere_store).exit
+    ensures { region_called (given result) points.new (lent frame face_store sphere_store).exit
         ≡ region_on ieee ORIGINS (lent frame face_store sphere_store).entry positions.now points.old }
 {
     let outline = copy_in(positions);
@@ -49,7 +50,7 @@ pub fn region_with(
     positions: &[LonLat],
     points: &mut [Face],
 ) -> RegionAnswer
-    ensures { region_called (given_region result) points.new (lent frame face_store sphere_store).exit
+    ensures { region_called (given result) points.new (lent frame face_store sphere_store).exit
         ≡ region_on ieee table (lent frame face_store sphere_store).entry positions.now points.old }
 {
     let outline = copy_in(positions);

@@ -6,7 +6,7 @@ ghost use Rattle.std.specs.Prelude.{◌≡◌};
 ghost use Rattle.answer.specs.Given.{status};
 ghost use Rattle.border.specs.Returns.{written};
 ghost use Rattle.caption_box.specs.Sides.{new_box};
-ghost use Rattle.region_work.specs.Region.{given_region};
+ghost use Rattle.answer.specs.Answer.{given};
 ghost use Rattle.region_border.specs.Regions.{is_answered, origin_of, box_of};
 
 use caption_box::CaptionBox;
@@ -14,7 +14,7 @@ use region_work::region::RegionAnswer;
 
 // 0 for an answer, and otherwise the number of the refusal.
 pub fn status(given: RegionAnswer) -> u8
-    ensures { result ≡ status (given_region given) }
+    ensures { result ≡ status (given given) }
 {
     match given {
         RegionAnswer::Answered(_) => 0,
@@ -24,7 +24,7 @@ pub fn status(given: RegionAnswer) -> u8
 
 // The origin goes where it is lent for; a refusal writes nothing.
 pub fn put_origin(given: RegionAnswer, origin: &mut u8)
-    ensures { origin.new ≡ written origin_of (given_region given) origin.old }
+    ensures { origin.new ≡ written origin_of (given given) origin.old }
 {
     if let RegionAnswer::Answered(r) = given {
         *origin = r.origin;
@@ -33,7 +33,7 @@ pub fn put_origin(given: RegionAnswer, origin: &mut u8)
 
 // Whether there is an answer.
 fn is_answered(given: RegionAnswer) -> bool
-    ensures { result ≡ is_answered (given_region given) }
+    ensures { result ≡ is_answered (given given) }
 {
     match given {
         RegionAnswer::Answered(_) => true,
@@ -43,7 +43,7 @@ fn is_answered(given: RegionAnswer) -> bool
 
 // The box of an answer, and a new one of a refusal.
 fn box_in(given: RegionAnswer) -> CaptionBox
-    ensures { result ≡ written box_of (given_region given) new_box }
+    ensures { result ≡ written box_of (given given) new_box }
 {
     match given {
         RegionAnswer::Answered(r) => {
@@ -56,7 +56,7 @@ fn box_in(given: RegionAnswer) -> CaptionBox
 
 // The box goes where it is lent for; a refusal writes nothing.
 pub fn put_box(given: RegionAnswer, caption: &mut CaptionBox)
-    ensures { caption.new ≡ written box_of (given_region given) caption.old }
+    ensures { caption.new ≡ written box_of (given given) caption.old }
 {
     if !is_answered(given) {
         return;

@@ -2,7 +2,7 @@
 ghost use Rattle.std.specs.Prelude.{◌≤◌, ◌≡◌, ◌||◌, take};
 ghost use Rattle.arithmetic.specs.Arith.{ieee};
 ghost use Rattle.set.specs.Outcome.{lent_shared};
-ghost use Rattle.dodecahedron.specs.Work.{given_place_work};
+ghost use Rattle.answer.specs.Answer.{given};
 ghost use Rattle.dodecahedron.specs.Calls.{place_given};
 ghost use Rattle.region_work.specs.Parts.{table_of, slot_empty, nothing_seen, seen_next, given_found, survey_of};
 
@@ -29,7 +29,7 @@ fn look(
     sphere_store: &[f64],
     position: LonLat,
 ) -> PlaceWork
-    ensures { given_place_work result
+    ensures { given result
         ≡ place_given ieee (table_of built_in table.now) (lent_shared frame face_store sphere_store).entry position }
 {
     if built_in {

@@ -1,14 +1,14 @@
 // The region call on plain values: its refusals, the survey, and the stores, which are written only where it answers.
 ghost use Rattle.std.specs.Prelude.{◌≤◌, ◌≡◌, take};
 ghost use Rattle.answer.specs.Given.{refused};
-ghost use Rattle.answer.specs.Answer.{number_of, given_check};
+ghost use Rattle.answer.specs.Answer.{number_of, given};
 ghost use Rattle.arithmetic.specs.Arith.{ieee};
 ghost use Rattle.origin.specs.Origins.{ORIGINS};
 ghost use Rattle.set.specs.Checks.{check_with};
 ghost use Rattle.set.specs.Outcome.{lent, lent_shared, Becomes};
 ghost use Rattle.dodecahedron.specs.Calls.{place_on};
 ghost use Rattle.place_list.specs.Lists.{placed_in_turn};
-ghost use Rattle.region_work.specs.Region.{given_region, check_positions};
+ghost use Rattle.region_work.specs.Region.{check_positions};
 ghost use Rattle.region_work.specs.Parts.{table_of, check_region, judged, kept, worked, region_worked};
 
 use crate::survey::survey;
@@ -35,7 +35,7 @@ pub struct RegionWork {
 
 // 15: there is a position, and there are no more than 256.
 fn check_positions(n: usize) -> Check
-    ensures { given_check result ≡ check_positions n }
+    ensures { given result ≡ check_positions n }
 {
     if n == 0 {
         return Check::Refused(Refusal::PositionCount);
@@ -54,7 +54,7 @@ fn check_either(
     face_store: &[f64],
     sphere_store: &[f64],
 ) -> Check
-    ensures { given_check result ≡ check_with ieee (table_of built_in table.now) (lent_shared frame face_store sphere_store).entry }
+    ensures { given result ≡ check_with ieee (table_of built_in table.now) (lent_shared frame face_store sphere_store).entry }
 {
     if built_in {
         return check_set(frame, face_store, sphere_store);
@@ -72,7 +72,7 @@ fn check_region(
     n: usize,
     m: usize,
 ) -> Check
-    ensures { given_check result ≡ check_region ieee (table_of built_in table.now) (lent_shared frame face_store sphere_store).entry n m }
+    ensures { given result ≡ check_region ieee (table_of built_in table.now) (lent_shared frame face_store sphere_store).entry n m }
 {
     let set = check_either(built_in, table, frame, face_store, sphere_store);
     first_refusal(set, first_refusal(check_positions(n), check_counts(n, m)))
@@ -80,7 +80,7 @@ fn check_region(
 
 // A position's own refusal, then 16, or the answer.
 fn judge(check: Check, seen: Seen) -> RegionAnswer
-    ensures { given_region result ≡ judged (given_check check) seen }
+    ensures { given result ≡ judged (given check) seen }
 {
     if let Check::Refused(r) = check {
         return RegionAnswer::Refused(r);
@@ -146,7 +146,7 @@ fn keep(
 
 // A refused call, which hands no points out.
 fn refuse(r: Refusal) -> RegionWork
-    ensures { (given_region result.answer ≡ refused (number_of r)) × (result.count ≡ 0) }
+    ensures { (given result.answer ≡ refused (number_of r)) × (result.count ≡ 0) }
 {
     let points = [Face(Vec2 { x: 0.0, y: 0.0 }); 256];
     RegionWork {
@@ -167,7 +167,7 @@ fn work_either(
     n: usize,
     m: usize,
 ) -> RegionWork
-    ensures { worked (given_region result.answer) result.count (take result.count result.points) (lent frame face_store sphere_store).exit
+    ensures { worked (given result.answer) result.count (take result.count result.points) (lent frame face_store sphere_store).exit
         ≡ region_worked ieee (table_of built_in table.now) (lent frame face_store sphere_store).entry (take n positions) n m }
 {
     let check = check_region(built_in, table, frame, face_store, sphere_store, n, m);
@@ -218,7 +218,7 @@ pub fn work(
     n: usize,
     m: usize,
 ) -> RegionWork
-    ensures { worked (given_region result.answer) result.count (take result.count result.points) (lent frame face_store sphere_store).exit
+    ensures { worked (given result.answer) result.count (take result.count result.points) (lent frame face_store sphere_store).exit
         ≡ region_worked ieee ORIGINS (lent frame face_store sphere_store).entry (take n positions) n m }
 {
     // not looked at
@@ -245,7 +245,7 @@ pub fn work_with(
     n: usize,
     m: usize,
 ) -> RegionWork
-    ensures { worked (given_region result.answer) result.count (take result.count result.points) (lent frame face_store sphere_store).exit
+    ensures { worked (given result.answer) result.count (take result.count result.points) (lent frame face_store sphere_store).exit
         ≡ region_worked ieee table (lent frame face_store sphere_store).entry (take n positions) n m }
 {
     work_either(

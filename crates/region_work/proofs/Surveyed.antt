@@ -15,7 +15,8 @@ use Rattle.coordinates.specs.declared.coords.Face.{Face}
 use Rattle.coordinates.specs.declared.lonlat.LonLat.{LonLat}
 use Rattle.set.specs.Set.{Set}
 use Rattle.stores.specs.declared.used.Used.{Used}
-use Rattle.dodecahedron.specs.Work.{Work, answer_of, used_of, set_used}
+use Rattle.dodecahedron.specs.Work.{answer_of, used_of, set_used}
+use Rattle.dodecahedron.specs.declared.work.Work.{Work}
 use Rattle.dodecahedron.specs.Calls.{place_given}
 use Rattle.dodecahedron.specs.declared.place.Place.{Place}
 use Rattle.place_list.specs.Lists.{result_of, placed_one, placed_in_turn}

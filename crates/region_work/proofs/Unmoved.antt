@@ -40,7 +40,8 @@ use Rattle.triangles.specs.Taken.{face_for, used_for}
 use Rattle.triangles.proofs.Within.{answered_same}
 use Rattle.triangles.proofs.Uses.{UsedOn}
 use Rattle.dodecahedron.specs.Place.{finite_place}
-use Rattle.dodecahedron.specs.Work.{Work, answer_of, used_of, set_used, finish}
+use Rattle.dodecahedron.specs.Work.{answer_of, used_of, set_used, finish}
+use Rattle.dodecahedron.specs.declared.work.Work.{Work}
 use Rattle.dodecahedron.specs.Projection.{frame_constants, polar_about, forward_core}
 use Rattle.dodecahedron.specs.Calls.{place_given, place_on}
 use Rattle.dodecahedron.specs.declared.place.Place.{Place}

@@ -2,7 +2,7 @@
 -- n count. Definitions only.
 use Rattle.std.specs.Prelude.{ℕ, Bool, true, false, cond, not, ◌||◌, List, [], ◌∷◌, ◌*◌, eqb, Float, take}
 use Rattle.answer.specs.Given.{Given, answered, refused, refuse_if, and_then, bind}
-use Rattle.answer.specs.Answer.{given_check}
+use Rattle.answer.specs.Answer.{given}
 use Rattle.arithmetic.specs.Arith.{Arith}
 use Rattle.coordinates.specs.declared.coords.Face.{Face}
 use Rattle.coordinates.specs.declared.lonlat.LonLat.{LonLat}
@@ -67,7 +67,7 @@ survey_of A table s seen (p ∷ ps) =
 
 -- what the code gives, of which n points count
 abbrev pub given_found : Found → ℕ → Given Surveyed
-given_found r n = and_then (given_check r.check) (answered (surveyed r.seen (take n r.points)))
+given_found r n = and_then (given r.check) (answered (surveyed r.seen (take n r.points)))
 
 -- ---- the refusals and the stores
 

@@ -19,9 +19,9 @@ use Rattle.region_work.specs.declared.region.RegionAnswer.{RegionAnswer}
 use Rattle.region_work.specs.declared.region.RegionAnswer.TheVariants as region_answer
 
 -- an answer's value, or the number of its refusal
-abbrev pub given_region : RegionAnswer → Given Region
-given_region (region_answer.Answered r) = answered r
-given_region (region_answer.Refused n) = refused (number_of n)
+abbrev pub given : RegionAnswer → Given Region
+given (region_answer.Answered r) = answered r
+given (region_answer.Refused n) = refused (number_of n)
 
 -- ---- the refusals
 

@@ -3,38 +3,31 @@
 #![tactic(auto)]
 
 ghost use Rattle.std.specs.Prelude.{◌≡◌, false, ◌<◌, length};
+ghost use Rattle.answer.specs.Answer.{given};
 ghost use Rattle.arithmetic.specs.Arith.{ieee};
 ghost use Rattle.elementary.specs.Sine.{beyond};
 ghost use Rattle.coordinates.specs.Constants.{8·0};
 ghost use Rattle.set.specs.Outcome.{lent_shared};
 ghost use Rattle.set.specs.Sizes.{FACE_SLOTS, FACE_STORE, SPHERE_SLOTS, SPHERE_STORE};
-ghost use Rattle.triangles.specs.Triangles.{sphere_built, sphere_taken, cross_taken, given_triangle};
+ghost use Rattle.triangles.specs.Triangles.{sphere_built, sphere_taken, cross_taken};
 
+use answer::Refusal;
 use coordinates::coords::{Cartesian, FaceTriangle, SphericalTriangle};
-use crs::frame::VertexAnswer;
 use origin::utils::Origin;
 use set::sizes::{SPHERE_CROSS, SPHERE_WIDTH};
 use stores::slots::is_filled;
-use triangles::triangles::{TriangleAnswer, corner_vertex, read_sphere, read_vector, take_face};
+use triangles::triangles::{corner_vertex, read_sphere, read_vector, take_face};
 use vector::cross;
 
 // compute_spherical_triangle: the three corners looked up; 8 where one has no row.
-fn build_sphere(frame: &[f64], origin: Origin, t: FaceTriangle) -> TriangleAnswer
+fn build_sphere(frame: &[f64], origin: Origin, t: FaceTriangle) -> Result<SphericalTriangle, Refusal>
     requires { beyond 8·0 origin.angle.0 ≡ false }
-    ensures { given_triangle result ≡ sphere_built ieee frame.now origin t }
+    ensures { given result ≡ sphere_built ieee frame.now origin t }
 {
-    match corner_vertex(frame, origin, t.a) {
-        VertexAnswer::Refused(n) => TriangleAnswer::Refused(n),
-        VertexAnswer::Answered(a) => match corner_vertex(frame, origin, t.b) {
-            VertexAnswer::Refused(n) => TriangleAnswer::Refused(n),
-            VertexAnswer::Answered(b) => match corner_vertex(frame, origin, t.c) {
-                VertexAnswer::Refused(n) => TriangleAnswer::Refused(n),
-                VertexAnswer::Answered(c) => {
-                    TriangleAnswer::Answered(SphericalTriangle { a, b, c })
-                }
-            },
-        },
-    }
+    let a = corner_vertex(frame, origin, t.a)?;
+    let b = corner_vertex(frame, origin, t.b)?;
+    let c = corner_vertex(frame, origin, t.c)?;
+    Ok(SphericalTriangle { a, b, c })
 }
 
 // The sphere triangle of a slot, built on the face triangle of the slot source where it is empty.
@@ -45,15 +38,15 @@ pub fn take_sphere(
     origin: Origin,
     slot: usize,
     source: usize,
-) -> TriangleAnswer
+) -> Result<SphericalTriangle, Refusal>
     requires slot_bound { (slot < SPHERE_SLOTS) × (length sphere_store.now ≡ SPHERE_STORE) }
     requires source_bound { (source < FACE_SLOTS) × (length face_store.now ≡ FACE_STORE) }
     requires angle_value { beyond 8·0 origin.angle.0 ≡ false }
-    ensures { given_triangle result ≡ sphere_taken ieee (lent_shared frame face_store sphere_store).entry origin slot source }
+    ensures { given result ≡ sphere_taken ieee (lent_shared frame face_store sphere_store).entry origin slot source }
 {
     let at = slot * SPHERE_WIDTH;
     if is_filled(sphere_store, at) {
-        TriangleAnswer::Answered(read_sphere(&sphere_store[at + 1..at + SPHERE_CROSS]))
+        Ok(read_sphere(&sphere_store[at + 1..at + SPHERE_CROSS]))
     } else {
         build_sphere(frame, origin, take_face(face_store, source))
     }

@@ -3,7 +3,7 @@
 #![tactic(auto)]
 
 ghost use Rattle.std.specs.Prelude.{◌≡◌};
-ghost use Rattle.answer.specs.Answer.{given_check};
+ghost use Rattle.answer.specs.Answer.{given};
 ghost use Rattle.arithmetic.specs.Arith.{ieee};
 ghost use Rattle.set.specs.Outcome.{lent, lent_shared};
 ghost use Rattle.place_list.specs.Lists.{step, placed_one, check_list, called, place_list_on};
@@ -38,7 +38,7 @@ fn check_list_with(
     positions: usize,
     results: usize,
 ) -> Check
-    ensures { given_check result ≡ check_list ieee table (lent_shared frame face_store sphere_store).entry positions results }
+    ensures { given result ≡ check_list ieee table (lent_shared frame face_store sphere_store).entry positions results }
 {
     let set = check_with(&table, frame, face_store, sphere_store);
     let counts = check_counts(positions, results);
@@ -55,7 +55,7 @@ pub fn place_list_with(
     positions: &[LonLat],
     results: &mut [PlaceResult],
 ) -> Check
-    ensures { called (given_check result) results.new (lent frame face_store sphere_store).exit
+    ensures { called (given result) results.new (lent frame face_store sphere_store).exit
         ≡ place_list_on ieee table (lent frame face_store sphere_store).entry positions.now results.old }
 {
     let check = check_list_with(

@@ -1,10 +1,10 @@
 // What the triangles of slots are taken with: a run of numbers as a triangle or a vector, the face
 // triangle of a slot, and the vertex of a corner.
 ghost use Rattle.std.specs.Prelude.{◌≡◌, false, ◌<◌, length};
+ghost use Rattle.answer.specs.Answer.{given};
 ghost use Rattle.arithmetic.specs.Arith.{ieee};
 ghost use Rattle.elementary.specs.Sine.{beyond};
 ghost use Rattle.coordinates.specs.Constants.{8·0};
-ghost use Rattle.crs.specs.Frame.{given_vertex};
 ghost use Rattle.set.specs.Sizes.{FACE_COORDINATES, FACE_SLOTS, FACE_STORE, SPHERE_COORDINATES};
 ghost use Rattle.stores.specs.Slots.{face_in, sphere_in, vector_in};
 ghost use Rattle.triangles.specs.Triangles.{face_taken, corner_vertex};
@@ -15,20 +15,12 @@ use coordinates::coords::{Cartesian, Face, FaceTriangle, SphericalTriangle};
 use coordinates::polar::Polar;
 use coordinates::vec2::Vec2;
 use coordinates::vec3::Vec3;
-use crs::frame::VertexAnswer;
 use origin::utils::Origin;
 use plane::to_polar;
 use quaternion::transform_quat;
 use set::sizes::FACE_WIDTH;
 use stores::slots::is_filled;
 use transforms::coordinate_transforms::to_cartesian;
-
-// A sphere triangle, or 8.
-#[derive(Clone, Copy)]
-pub enum TriangleAnswer {
-    Answered(SphericalTriangle),
-    Refused(Refusal),
-}
 
 // The triangle of a run of coordinates, as it stands.
 fn read_face(run: &[f64]) -> FaceTriangle
@@ -102,9 +94,9 @@ pub fn take_face(store: &[f64], slot: usize) -> FaceTriangle
 
 // A corner of a face triangle, turned to the origin and looked up in the frame: unprojected to the
 // sphere with the origin's own angle on top, and rotated out of the origin's space.
-pub fn corner_vertex(frame: &[f64], origin: Origin, corner: Face) -> VertexAnswer
+pub fn corner_vertex(frame: &[f64], origin: Origin, corner: Face) -> Result<Cartesian, Refusal>
     requires { beyond 8·0 origin.angle.0 ≡ false }
-    ensures { given_vertex result ≡ corner_vertex ieee frame.now origin corner }
+    ensures { given result ≡ corner_vertex ieee frame.now origin corner }
 {
     let polar = to_polar(corner);
     let rotated_polar = Polar {

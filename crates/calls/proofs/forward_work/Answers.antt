@@ -1,7 +1,7 @@
 -- `forward_work` meets its contract: refused by its checks, or what its core comes to. Assumes nothing.
 use mathlib.Core.Path.{◌≡◌, sym, ap, ◌∙◌}
 use Rattle.answer.specs.Given.{Given, and_then}
-use Rattle.answer.specs.Answer.{given_check}
+use Rattle.answer.specs.Answer.{given}
 use Rattle.answer.proofs.Given.{then_answered, then_passed, then_refused}
 use Rattle.arithmetic.specs.Arith.{ieee}
 use Rattle.coordinates.specs.Conversions.{check_spherical}
@@ -28,19 +28,19 @@ pub returns-in-Refused : goal.returns-in-Refused
 returns-in-Refused c =
     let a = c.args in
     let tested_here = tested (held a.frame a.face_store a.sphere_store) a.origin a.spherical c.check_call-set.ensures c.check_spherical.ensures c.first_refusal-check.ensures in
-    let refused = sym tested_here ∙ ap given_check c.in-Refused.is in
+    let refused = sym tested_here ∙ ap given c.in-Refused.is in
     sym (forward_is ieee ORIGINS _ _ _ ∙ then_refused _ _ _ refused)
 
 pub forward_core-requires : goal.forward_core-requires
 forward_core-requires c =
     let a = c.args in
-    let passes = sym (tested (held a.frame a.face_store a.sphere_store) a.origin a.spherical c.check_call-set.ensures c.check_spherical.ensures c.first_refusal-check.ensures) ∙ ap given_check c.in_default.is in
+    let passes = sym (tested (held a.frame a.face_store a.sphere_store) a.origin a.spherical c.check_call-set.ensures c.check_spherical.ensures c.first_refusal-check.ensures) ∙ ap given c.in_default.is in
     let both = then_answered _ _ tt passes in
     record { id_value = (sym (built_in_tests _ _) ∙ both.0, rw c.get_origin.ensures (angle_small _)); theta_value = passed_inside _ both.1 }
 
 pub returns : goal.returns
 returns c =
     let a = c.args in
-    let passes = sym (tested (held a.frame a.face_store a.sphere_store) a.origin a.spherical c.check_call-set.ensures c.check_spherical.ensures c.first_refusal-check.ensures) ∙ ap given_check c.in_default.is in
+    let passes = sym (tested (held a.frame a.face_store a.sphere_store) a.origin a.spherical c.check_call-set.ensures c.check_spherical.ensures c.first_refusal-check.ensures) ∙ ap given c.in_default.is in
     rw (c.finish_face.ensures, c.forward_core.ensures, c.get_origin.ensures)
     (sym (forward_is ieee ORIGINS _ _ _ ∙ then_passed _ _ passes))

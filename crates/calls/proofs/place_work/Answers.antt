@@ -1,7 +1,7 @@
 -- `place_work` meets its contract: refused by its checks, or what its core comes to. Assumes nothing.
 use mathlib.Core.Path.{◌≡◌, sym, ap, ◌∙◌}
 use Rattle.answer.specs.Given.{Given, and_then}
-use Rattle.answer.specs.Answer.{given_check}
+use Rattle.answer.specs.Answer.{given}
 use Rattle.answer.proofs.Given.{then_answered, then_passed}
 use Rattle.arithmetic.specs.Arith.{ieee}
 use Rattle.coordinates.specs.Conversions.{check_lon_lat}
@@ -30,26 +30,26 @@ pub returns-in-Refused : goal.returns-in-Refused
 returns-in-Refused c =
     let a = c.args in
     let tested_here = tested (held a.frame a.face_store a.sphere_store) a.lonlat c.check_set-set.ensures c.check_lon_lat.ensures c.first_refusal-check.ensures in
-    sym (place_refused ieee ORIGINS _ _ _ (sym tested_here ∙ ap given_check c.in-Refused.is))
+    sym (place_refused ieee ORIGINS _ _ _ (sym tested_here ∙ ap given c.in-Refused.is))
 
 pub from_lon_lat-spherical-requires : goal.from_lon_lat-spherical-requires
 from_lon_lat-spherical-requires c =
     let a = c.args in
-    let passes = sym (tested (held a.frame a.face_store a.sphere_store) a.lonlat c.check_set-set.ensures c.check_lon_lat.ensures c.first_refusal-check.ensures) ∙ ap given_check c.in_default.is in
+    let passes = sym (tested (held a.frame a.face_store a.sphere_store) a.lonlat c.check_set-set.ensures c.check_lon_lat.ensures c.first_refusal-check.ensures) ∙ ap given c.in_default.is in
     let position_passes = (then_answered _ _ tt passes).1 in
     latitude_inside _ position_passes
 
 pub find_nearest_origin-origin-requires : goal.find_nearest_origin-origin-requires
 find_nearest_origin-origin-requires c =
     let a = c.args in
-    let passes = sym (tested (held a.frame a.face_store a.sphere_store) a.lonlat c.check_set-set.ensures c.check_lon_lat.ensures c.first_refusal-check.ensures) ∙ ap given_check c.in_default.is in
+    let passes = sym (tested (held a.frame a.face_store a.sphere_store) a.lonlat c.check_set-set.ensures c.check_lon_lat.ensures c.first_refusal-check.ensures) ∙ ap given c.in_default.is in
     let position_passes = (then_answered _ _ tt passes).1 in
     rw c.from_lon_lat-spherical.ensures (from_lon_lat_inside _ position_passes)
 
 pub forward_core-core-requires : goal.forward_core-core-requires
 forward_core-core-requires c =
     let a = c.args in
-    let passes = sym (tested (held a.frame a.face_store a.sphere_store) a.lonlat c.check_set-set.ensures c.check_lon_lat.ensures c.first_refusal-check.ensures) ∙ ap given_check c.in_default.is in
+    let passes = sym (tested (held a.frame a.face_store a.sphere_store) a.lonlat c.check_set-set.ensures c.check_lon_lat.ensures c.first_refusal-check.ensures) ∙ ap given c.in_default.is in
     let position_passes = (then_answered _ _ tt passes).1 in
     let set_passes = (with_passed ieee ORIGINS _ (then_answered _ _ tt passes).0).0 in record {
       id_value = (
@@ -62,7 +62,7 @@ forward_core-core-requires c =
 pub returns : goal.returns
 returns c =
     let a = c.args in
-    let passes = sym (tested (held a.frame a.face_store a.sphere_store) a.lonlat c.check_set-set.ensures c.check_lon_lat.ensures c.first_refusal-check.ensures) ∙ ap given_check c.in_default.is in
+    let passes = sym (tested (held a.frame a.face_store a.sphere_store) a.lonlat c.check_set-set.ensures c.check_lon_lat.ensures c.first_refusal-check.ensures) ∙ ap given c.in_default.is in
     let is = place_is ieee ORIGINS _ _ _ _ c.from_lon_lat-spherical.ensures c.find_nearest_origin-origin.ensures in
     rw (c.finish_place.ensures, c.forward_core-core.ensures, c.get_origin.ensures)
     (sym (is ∙ then_passed _ _ passes))

@@ -1,7 +1,7 @@
 -- `unplace_work` meets its contract: refused by its checks, or what its core comes to. Assumes nothing.
 use mathlib.Core.Path.{◌≡◌, sym, ap, ◌∙◌}
 use Rattle.answer.specs.Given.{Given, and_then}
-use Rattle.answer.specs.Answer.{given_check}
+use Rattle.answer.specs.Answer.{given}
 use Rattle.answer.proofs.Given.{then_answered, then_passed, then_refused}
 use Rattle.arithmetic.specs.Arith.{ieee}
 use Rattle.coordinates.specs.Conversions.{check_face}
@@ -28,13 +28,13 @@ pub returns-in-Refused : goal.returns-in-Refused
 returns-in-Refused c =
     let a = c.args in
     let tested_here = tested (held a.frame a.face_store a.sphere_store) a.origin a.face c.check_call-set.ensures c.check_face.ensures c.first_refusal-check.ensures in
-    let refused = sym tested_here ∙ ap given_check c.in-Refused.is in
+    let refused = sym tested_here ∙ ap given c.in-Refused.is in
     sym (unplace_is ieee ORIGINS _ _ _ ∙ then_refused _ _ _ refused)
 
 pub inverse_core-requires : goal.inverse_core-requires
 inverse_core-requires c =
     let a = c.args in
-    let passes = sym (tested (held a.frame a.face_store a.sphere_store) a.origin a.face c.check_call-set.ensures c.check_face.ensures c.first_refusal-check.ensures) ∙ ap given_check c.in_default.is in
+    let passes = sym (tested (held a.frame a.face_store a.sphere_store) a.origin a.face c.check_call-set.ensures c.check_face.ensures c.first_refusal-check.ensures) ∙ ap given c.in_default.is in
     (sym (built_in_tests _ _) ∙ (then_answered _ _ tt passes).0, rw c.get_origin.ensures (angle_small _))
 
 pub finish_lon_lat-requires : goal.finish_lon_lat-requires
@@ -43,6 +43,6 @@ finish_lon_lat-requires c w e = inverse_colatitude _ _ _ _ w (sym c.inverse_core
 pub returns : goal.returns
 returns c =
     let a = c.args in
-    let passes = sym (tested (held a.frame a.face_store a.sphere_store) a.origin a.face c.check_call-set.ensures c.check_face.ensures c.first_refusal-check.ensures) ∙ ap given_check c.in_default.is in
+    let passes = sym (tested (held a.frame a.face_store a.sphere_store) a.origin a.face c.check_call-set.ensures c.check_face.ensures c.first_refusal-check.ensures) ∙ ap given c.in_default.is in
     rw (c.finish_lon_lat.ensures, c.inverse_core.ensures, c.get_origin.ensures)
     (sym (unplace_is ieee ORIGINS _ _ _ ∙ then_passed _ _ passes))

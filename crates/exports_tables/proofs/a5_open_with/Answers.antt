@@ -2,7 +2,7 @@
 use mathlib.Core.Path.{sym, ap, ◌∙◌}
 use borrow.Author.Tests.{eq-eqb, ne_eqb}
 use Rattle.answer.specs.Given.{status}
-use Rattle.set.specs.Open.{given_open}
+use Rattle.answer.specs.Answer.{given}
 use Rattle.set.specs.Outcome.{Outcome}
 use Rattle.border.proofs.Tables.{other_length_on, rows_of_on}
 use Rattle.exports_tables.proofs.a5_open_with.Goals as goal
@@ -15,12 +15,12 @@ returns-then-table-ne84 c =
 pub returns-in-Opened : goal.returns-in-Opened
 returns-in-Opened c =
     let call = c.open_with-given.ensures in
-    let answer = sym (ap given_open c.in-Opened.is) ∙ call.answer in
+    let answer = sym (ap given c.in-Opened.is) ∙ call.answer in
     let given = sym (rows_of_on _ _ _ _ (eq-eqb _ _ c.if-table-ne84.false) c.rows.ensures) in
     record { answer = ap status (answer ∙ ap (λ (o : Outcome (Unit {0})). o.answer) given); left = call.left ∙ ap (λ (o : Outcome (Unit {0})). o.set) given }
 
 pub returns-in-Refused : goal.returns-in-Refused
 returns-in-Refused c =
     let call = c.open_with-given.ensures in
-    let refusal = sym (ap given_open c.in-Refused.is) ∙ call.answer in
+    let refusal = sym (ap given c.in-Refused.is) ∙ call.answer in
     let given = sym (rows_of_on _ _ _ _ (eq-eqb _ _ c.if-table-ne84.false) c.rows.ensures) in record { answer = c.number.ensures ∙ ap status (refusal ∙ ap (λ (o : Outcome (Unit {0})). o.answer) given); left = call.left ∙ ap (λ (o : Outcome (Unit {0})). o.set) given }

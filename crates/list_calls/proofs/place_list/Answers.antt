@@ -1,6 +1,6 @@
 -- `place_list` meets its contract. Of `check_list`, `turns` and `place_one` only the contracts are known. Assumes nothing.
 use Rattle.std.proofs.Common.{◌∙◌, ◌<◌, ap, length, arith, add-one}
-use Rattle.answer.specs.Answer.{given_check}
+use Rattle.answer.specs.Answer.{given}
 use Rattle.arithmetic.specs.Arith.{ieee}
 use Rattle.origin.specs.Origins.{ORIGINS}
 use Rattle.place_list.specs.Lists.{turns_of}
@@ -14,7 +14,7 @@ loop-i-init c = (omega arith, not_turned ORIGINS _ _ _)
 pub bounds-results-i : goal.bounds-results-i
 bounds-results-i c =
     let at = c.loop-i.invariant.1 in
-    let placed : c.loop-i.i < turns_of (given_check c.check_list-check.result) (length c.args.positions.now) = omega arith in
+    let placed : c.loop-i.i < turns_of (given c.check_list-check.result) (length c.args.positions.now) = omega arith in
     let inside = within ieee ORIGINS _ _ _ _ _ c.check_list-check.ensures placed in
     omega (arith, inside.1, ap length at.results_are ∙ at.kept.results)
 

@@ -3,7 +3,7 @@
 use mathlib.Core.Path.{◌≡◌, refl, ap, ◌∙◌}
 use mathlib.Core.List.{List}
 use Prim.Native.Nat.{ℕ}
-use Rattle.answer.specs.Answer.{given_check}
+use Rattle.answer.specs.Answer.{given}
 use Rattle.answer.specs.Given.{Given, and_then}
 use Rattle.arithmetic.specs.Arith.{ieee}
 use Rattle.origin.specs.Origins.{ORIGINS}
@@ -23,16 +23,16 @@ pub returns-in-Refused : goal.returns-in-Refused
 returns-in-Refused c =
     let s = set_of c.args.frame.now c.args.face_store.now c.args.sphere_store.now in
     let refuses = tested s c.args.block.now c.first_refusal-check.ensures c.check_block.ensures c.check_set.ensures in
-    steps_refused ORIGINS _ (refuses ∙ ap given_check c.in-Refused.is) refl refl
+    steps_refused ORIGINS _ (refuses ∙ ap given c.in-Refused.is) refl refl
 
 pub carry_out-requires : goal.carry_out-requires
 carry_out-requires c =
     let s = set_of c.args.frame.now c.args.face_store.now c.args.sphere_store.now in
     let passes = tested s c.args.block.now c.first_refusal-check.ensures c.check_block.ensures c.check_set.ensures in
-    block_long ieee ORIGINS s c.args.block.now (passes ∙ ap given_check c.in_default.is)
+    block_long ieee ORIGINS s c.args.block.now (passes ∙ ap given c.in_default.is)
 
 pub returns : goal.returns
 returns c =
     let s = set_of c.args.frame.now c.args.face_store.now c.args.sphere_store.now in
     let passes = tested s c.args.block.now c.first_refusal-check.ensures c.check_block.ensures c.check_set.ensures in
-    steps_passed ORIGINS (passes ∙ ap given_check c.in_default.is) c.carry_out.ensures
+    steps_passed ORIGINS (passes ∙ ap given c.in_default.is) c.carry_out.ensures

@@ -8,7 +8,8 @@ use Rattle.tiling.proofs.Modulo.{index_below_10}
 use Rattle.set.specs.Sizes.{SPHERE_SLOTS, SPHERE_STORE}
 use Rattle.set.proofs.Lengths.{call_passed}
 use Rattle.stores.proofs.Within.{source_below, sphere_below}
-use Rattle.triangles.specs.Triangles.{given_triangle}
+use Rattle.answer.specs.Answer.{given}
+use Rattle.answer.proofs.Given.{handed_on}
 use Rattle.triangles.proofs.Within.{used_refused, used_answered}
 use Rattle.point_triangles.proofs.take_used.Lts as lts
 use Rattle.point_triangles.proofs.take_used.Reads as reads
@@ -55,19 +56,20 @@ pub take_cross-bxc-requires : goal.take_cross-bxc-requires
 take_cross-bxc-requires c =
     sphere_there c.before.before.before.before
 
-pub returns-in-Refused : goal.returns-in-Refused
-returns-in-Refused c =
+pub returns-in_err-triangle : goal.returns-in_err-triangle
+returns-in_err-triangle c =
     let reflect = c.should_reflect-reflected in
     let index = c.get_face_triangle_index-index in
     let triangle = rw (c.sphere_slot-slot.ensures, c.source_slot-source.ensures) at c.take_sphere.ensures in
-    let refused = sym triangle ∙ ap given_triangle c.in-Refused.is in
-    sym (used_refused ieee _ _ _ _ index.result reflect.result index.ensures reflect.ensures _ refused)
+    let refused = sym triangle ∙ ap given c.in_err-triangle.was in
+    handed_on _ _ c.from_residual.ensures
+    ∙ sym (used_refused ieee _ _ _ _ index.result reflect.result index.ensures reflect.ensures _ refused)
 
-pub returns-in-Answered : goal.returns-in-Answered
-returns-in-Answered c =
+pub returns : goal.returns
+returns c =
     let reflect = c.should_reflect-reflected in
     let index = c.get_face_triangle_index-index in
     let triangle = rw (c.sphere_slot-slot.ensures, c.source_slot-source.ensures) at c.take_sphere.ensures in
-    let answered = sym triangle ∙ ap given_triangle c.in-Answered.is in
+    let answered = sym triangle ∙ ap given c.in_ok-triangle.was in
     let used = used_answered ieee _ _ _ _ index.result reflect.result index.ensures reflect.ensures _ answered in
     rw (c.take_cross-bxc.ensures, c.sphere_slot-slot.ensures) (sym used)

@@ -1,42 +1,37 @@
--- `build_sphere` meets its contract. Assumes nothing.
+-- `build_sphere` meets its contract: each corner in turn. Assumes nothing.
+use mathlib.Core.Path.{sym, ap, ◌∙◌}
+use Rattle.answer.specs.Answer.{given}
+use Rattle.answer.proofs.Given.{handed_on}
 use Rattle.triangles.specs.Triangles.{sphere_built}
 use Rattle.sphere_triangles.proofs.build_sphere.Goals as goal
 
-pub returns-in-Refused : goal.returns-in-Refused
+pub returns-in_err-a : goal.returns-in_err-a
 unfolding sphere_built
-returns-in-Refused c =
-    simp (← c.corner_vertex.ensures, c.in-Refused.is)
+returns-in_err-a c =
+    handed_on _ _ c.from_residual.ensures
+    ∙ sym (rw (sym c.corner_vertex.ensures ∙ ap given c.in_err-a.was))
 
-pub returns-in-Refused-corner_vertex : goal.returns-in-Refused-corner_vertex
+pub returns-in_err-b : goal.returns-in_err-b
 unfolding sphere_built
-returns-in-Refused-corner_vertex c =
-    simp (
-      ← c.corner_vertex.ensures,
-      c.in-Answered.is,
-      ← c.corner_vertex-in-Answered.ensures,
-      c.in-Refused-corner_vertex.is,
-    )
+returns-in_err-b c =
+    handed_on _ _ c.from_residual.ensures
+    ∙ sym (rw (sym c.corner_vertex.ensures ∙ ap given c.in_ok-a.was, sym c.corner_vertex-2.ensures ∙ ap given c.in_err-b.was))
 
-pub returns-in-Refused-corner_vertex-2 : goal.returns-in-Refused-corner_vertex-2
+pub returns-in_err-c : goal.returns-in_err-c
 unfolding sphere_built
-returns-in-Refused-corner_vertex-2 c =
-    simp (
-      ← c.corner_vertex.ensures,
-      c.in-Answered.is,
-      ← c.corner_vertex-in-Answered.ensures,
-      c.in-Answered-corner_vertex.is,
-      ← c.corner_vertex-in-Answered-corner_vertex.ensures,
-      c.in-Refused-corner_vertex-2.is,
-    )
+returns-in_err-c c =
+    handed_on _ _ c.from_residual.ensures
+    ∙ sym (rw (
+      sym c.corner_vertex.ensures ∙ ap given c.in_ok-a.was,
+      sym c.corner_vertex-2.ensures ∙ ap given c.in_ok-b.was,
+      sym c.corner_vertex-3.ensures ∙ ap given c.in_err-c.was,
+    ))
 
-pub returns-in-Answered-corner_vertex-2 : goal.returns-in-Answered-corner_vertex-2
+pub returns : goal.returns
 unfolding sphere_built
-returns-in-Answered-corner_vertex-2 c =
-    simp (
-      ← c.corner_vertex.ensures,
-      c.in-Answered.is,
-      ← c.corner_vertex-in-Answered.ensures,
-      c.in-Answered-corner_vertex.is,
-      ← c.corner_vertex-in-Answered-corner_vertex.ensures,
-      c.in-Answered-corner_vertex-2.is,
-    )
+returns c =
+    sym (rw (
+      sym c.corner_vertex.ensures ∙ ap given c.in_ok-a.was,
+      sym c.corner_vertex-2.ensures ∙ ap given c.in_ok-b.was,
+      sym c.corner_vertex-3.ensures ∙ ap given c.in_ok-c.was,
+    ))

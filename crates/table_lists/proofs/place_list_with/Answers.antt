@@ -1,6 +1,6 @@
 -- `place_list_with` meets its contract. Of `check_list_with`, `turns` and `place_one_with` only the contracts are known. Assumes nothing.
 use Rattle.std.proofs.Common.{◌∙◌, ◌<◌, ap, length, arith, add-one}
-use Rattle.answer.specs.Answer.{given_check}
+use Rattle.answer.specs.Answer.{given}
 use Rattle.arithmetic.specs.Arith.{ieee}
 use Rattle.place_list.specs.Lists.{turns_of}
 use Rattle.list_parts.proofs.Loop.{within}
@@ -13,7 +13,7 @@ loop-i-init c = (omega arith, not_turned c.args.table _ _ _)
 pub bounds-results-i : goal.bounds-results-i
 bounds-results-i c =
     let at = c.loop-i.invariant.1 in
-    let placed : c.loop-i.i < turns_of (given_check c.check_list_with-check.result) (length c.args.positions.now) = omega arith in
+    let placed : c.loop-i.i < turns_of (given c.check_list_with-check.result) (length c.args.positions.now) = omega arith in
     let inside = within ieee c.args.table _ _ _ _ _ c.check_list_with-check.ensures placed in
     omega (arith, inside.1, ap length at.results_are ∙ at.kept.results)
 

@@ -3,7 +3,7 @@ use mathlib.Core.Path.{◌≡◌, refl, ap, ◌∙◌}
 use mathlib.Core.List.{List}
 use Prim.Native.Nat.{ℕ}
 use lib.Ieee.{Float}
-use Rattle.answer.specs.Answer.{given_check}
+use Rattle.answer.specs.Answer.{given}
 use Rattle.answer.specs.Given.{Given, and_then}
 use Rattle.arithmetic.specs.Arith.{ieee}
 use Rattle.set.specs.Set.{Set, set_of}
@@ -23,16 +23,16 @@ pub returns-in-Refused : goal.returns-in-Refused
 returns-in-Refused c =
     let s = set_of c.args.frame.now c.args.face_store.now c.args.sphere_store.now in
     let refuses = tested c.args.table s c.args.block.now c.first_refusal-check.ensures c.check_block.ensures c.check_with.ensures in
-    steps_refused c.args.table _ (refuses ∙ ap given_check c.in-Refused.is) refl refl
+    steps_refused c.args.table _ (refuses ∙ ap given c.in-Refused.is) refl refl
 
 pub carry_out_with-requires : goal.carry_out_with-requires
 carry_out_with-requires c =
     let s = set_of c.args.frame.now c.args.face_store.now c.args.sphere_store.now in
     let passes = tested c.args.table s c.args.block.now c.first_refusal-check.ensures c.check_block.ensures c.check_with.ensures in
-    block_long ieee c.args.table s c.args.block.now (passes ∙ ap given_check c.in_default.is)
+    block_long ieee c.args.table s c.args.block.now (passes ∙ ap given c.in_default.is)
 
 pub returns : goal.returns
 returns c =
     let s = set_of c.args.frame.now c.args.face_store.now c.args.sphere_store.now in
     let passes = tested c.args.table s c.args.block.now c.first_refusal-check.ensures c.check_block.ensures c.check_with.ensures in
-    steps_passed c.args.table (passes ∙ ap given_check c.in_default.is) c.carry_out_with.ensures
+    steps_passed c.args.table (passes ∙ ap given c.in_default.is) c.carry_out_with.ensures

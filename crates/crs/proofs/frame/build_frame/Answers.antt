@@ -1,5 +1,5 @@
 -- `frame::build_frame` meets its contract. The loop's invariant: the candidates that are left, added to the rows so far, give the frame, and
--- nothing behind the rows has changed. The measure: how many candidates are left. Assumes nothing.
+-- nothing behind the rows has changed. Assumes nothing.
 use mathlib.Core.Path.{◌≡◌, refl, sym, ◌∙◌}
 use Prim.Native.Nat.{◌-◌, zero-le}
 use native.Mathlib.Omega.{arith}
@@ -12,7 +12,7 @@ use Rattle.crs.proofs.frame.build_frame.Goals as goal
 
 pub loop-k-init : goal.loop-k-init
 unfolding frame_rows
-loop-k-init c = (zero-le, omega arith, zero-le, refl, refl)
+loop-k-init c = (zero-le, zero-le, refl, refl)
 
 pub loop-k-preserved : goal.loop-k-preserved
 loop-k-preserved c =
@@ -21,10 +21,9 @@ loop-k-preserved c =
     let start = a.rows.now in
     let e = rw c.candidate.ensures at c.add-used.ensures.rows in (
       omega arith,
-      omega arith,
       omega (arith, c.add-used.auto.rows),
-      rw e (sym (next_candidate ieee a.table.now 132 v.k (take v.used v.rows) (omega arith)) ∙ v.invariant.3),
-      c.add-used.ensures.behind ∙ drop_later v.rows start v.used c.add-used.result c.add-used.ensures.used.0 v.invariant.4,
+      rw e (sym (next_candidate ieee a.table.now 132 v.k (take v.used v.rows) (omega arith)) ∙ v.invariant.2),
+      c.add-used.ensures.behind ∙ drop_later v.rows start v.used c.add-used.result c.add-used.ensures.used.0 v.invariant.3,
     )
 
 pub returns : goal.returns
@@ -32,5 +31,5 @@ unfolding add_rows
 returns c =
     let v = c.loop-k in
     let none : 132 - v.k ≡ 0 = omega arith in
-    let e = rw none at v.invariant.3 in
-    record { used = front_length v.rows _ v.used (omega arith) e; rows = joined v.rows c.args.rows.now _ v.used e v.invariant.4 }
+    let e = rw none at v.invariant.2 in
+    record { used = front_length v.rows _ v.used (omega arith) e; rows = joined v.rows c.args.rows.now _ v.used e v.invariant.3 }

@@ -1,5 +1,5 @@
 -- `frame::build_frame` meets its contract. The loop's invariant: the candidates that are left, added to the rows so far, give the frame, and
--- nothing behind the rows has changed. The measure: how many candidates are left. Assumes nothing.
+-- nothing behind the rows has changed. Assumes nothing.
 use mathlib.Core.Path.{◌≡◌}
 use Prim.Native.Nat.{◌-◌, ◌*◌, ◌≤◌}
 use lib.ListN.{length, take, drop}
@@ -9,10 +9,6 @@ use Rattle.crs.proofs.frame.build_frame.Given as goal
 
 abbrev pub invariant-loop-k : goal.invariant-loop-k
 invariant-loop-k l = (l.used ≤ 3 * l.k)
-    × (l.k ≤ 132)
     × (l.used ≤ length l.rows)
     × (add_rows ieee l.table (132 - l.k) l.k (take l.used l.rows) ≡ frame_rows ieee l.table)
     × (drop l.used l.rows ≡ drop l.used l.initial.rows)
-
-abbrev pub decreases-loop-k : goal.decreases-loop-k
-decreases-loop-k l = 132 - l.k

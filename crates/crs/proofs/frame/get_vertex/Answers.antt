@@ -1,24 +1,17 @@
--- `frame::get_vertex` meets its contract. The loop's invariant: what is left of the frame, from here, gives the answer of the whole. The
--- measure: how many numbers are left. Assumes nothing.
-use mathlib.Core.Path.{sym, ◌∙◌}
+-- `frame::get_vertex` meets its contract: a row that is near is the first, and after one that isn't the rest decides. Assumes nothing.
+use mathlib.Core.Path.{sym, ap, ◌∙◌}
+use Prim.Native.Nat.{◌-◌}
 use native.Mathlib.Omega.{arith}
+use lib.ListN.{length, drop}
+use Rattle.std.proofs.lemmas.List.{take_all, length-drop}
 use Rattle.arithmetic.specs.Arith.{ieee}
-use Rattle.crs.proofs.Search.{found, missed, at_end}
+use Rattle.crs.specs.Frame.{find_vertex}
+use Rattle.crs.proofs.Search.{missed}
 use Rattle.crs.proofs.frame.get_vertex.Goals as goal
 
-pub returns-then-near : goal.returns-then-near
-returns-then-near c =
-    let a = c.args in
-    let hit = sym c.near.ensures ∙ c.if-near.true in
-    sym (found ieee a.frame.now a.point c.loop-at.at (omega arith) hit) ∙ c.loop-at.invariant.1
-
-pub loop-at-preserved : goal.loop-at-preserved
-loop-at-preserved c =
-    let a = c.args in
+pub loop-rows-preserved : goal.loop-rows-preserved
+loop-rows-preserved c =
+    let rows = c.loop-rows.rows.now in
     let miss = sym c.near.ensures ∙ c.if-near.false in
-    (omega arith, sym (missed ieee a.frame.now a.point c.loop-at.at (omega arith) miss) ∙ c.loop-at.invariant.1)
-
-pub returns : goal.returns
-returns c =
-    let a = c.args in
-    sym (at_end ieee a.frame.now a.point c.loop-at.at (omega arith)) ∙ c.loop-at.invariant.1
+    rw (take_all (length rows - 3) (drop 3 rows) (omega (arith, length-drop 3 rows)))
+    (sym (missed ieee rows c.args.point 0 (omega arith) miss) ∙ c.loop-rows.invariant)
