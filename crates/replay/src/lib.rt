@@ -2,6 +2,7 @@
 // records, as they are read (oracle/README.md), outcomes and the report; crate replay_tally compares and counts.
 #![tactic(auto)]
 
+pub mod function;
 pub mod outcome;
 pub mod pattern;
 pub mod record;

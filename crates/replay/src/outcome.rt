@@ -1,81 +1,88 @@
 // What a function comes to, as a list stores it.
-ghost use Rattle.std.specs.Prelude.{◌≡◌, to_bits};
+ghost use Rattle.std.specs.Prelude.{◌≡◌, to_bits, IfOk, IfErr};
 ghost use Rattle.std.specs.Float.{binary64};
+ghost use Rattle.answer.specs.Answer.{number_of};
 ghost use Rattle.replay.specs.Outcome.{outcome_of};
 
-use answer::bits;
+use answer::{Refusal, bits};
+use std::fmt;
 
-// 0 and the answers' bits, or the number of the refusal and no answers. A place past the count holds 0.
-#[derive(Clone, Copy)]
+// 0 or the number of the refusal, and up to three answers: those that there are stand first.
+#[derive(Clone, Copy, PartialEq, Eq)]
 pub struct Outcome {
     pub status: u8,
-    pub count: u8,
-    pub first: u64,
-    pub second: u64,
-    pub third: u64,
+    pub answers: [Option<u64>; 3],
+}
+
+// A refusal's number, and the answers.
+impl fmt::Display for Outcome {
+    fn fmt<W: fmt::Write>(&self, f: &mut fmt::Formatter<W>) -> fmt::Result {
+        if self.status > 0 {
+            let status = self.status;
+            write!(f, " refusal {status}")?;
+        }
+        for bits in self.answers.iter().flatten() {
+            write!(f, " {bits:016x}")?;
+        }
+        Ok(())
+    }
 }
 
 // One answer.
 pub fn one(x: f64) -> Outcome
-    ensures { result ≡ outcome_of 0 1 (to_bits binary64 x) 0 0 }
+    ensures { result ≡ outcome_of 0 (Some (to_bits binary64 x)) None None }
 {
-    Outcome {
-        status: 0,
-        count: 1,
-        first: bits(x),
-        second: 0,
-        third: 0,
-    }
+    whole(bits(x))
 }
 
 // One answer that is a whole number: it stands as it is, not as a float.
 pub fn whole(n: u64) -> Outcome
-    ensures { result ≡ outcome_of 0 1 n 0 0 }
+    ensures { result ≡ outcome_of 0 (Some n) None None }
 {
     Outcome {
         status: 0,
-        count: 1,
-        first: n,
-        second: 0,
-        third: 0,
+        answers: [Some(n), None, None],
     }
 }
 
 // Two answers.
 pub fn two(x: f64, y: f64) -> Outcome
-    ensures { result ≡ outcome_of 0 2 (to_bits binary64 x) (to_bits binary64 y) 0 }
+    ensures { result ≡ outcome_of 0 (Some (to_bits binary64 x)) (Some (to_bits binary64 y)) None }
 {
     Outcome {
         status: 0,
-        count: 2,
-        first: bits(x),
-        second: bits(y),
-        third: 0,
+        answers: [Some(bits(x)), Some(bits(y)), None],
     }
 }
 
 // Three answers.
 pub fn three(x: f64, y: f64, z: f64) -> Outcome
-    ensures { result ≡ outcome_of 0 3 (to_bits binary64 x) (to_bits binary64 y) (to_bits binary64 z) }
+    ensures { result ≡ outcome_of 0 (Some (to_bits binary64 x)) (Some (to_bits binary64 y)) (Some (to_bits binary64 z)) }
 {
     Outcome {
         status: 0,
-        count: 3,
-        first: bits(x),
-        second: bits(y),
-        third: bits(z),
+        answers: [Some(bits(x)), Some(bits(y)), Some(bits(z))],
     }
 }
 
 // A refusal, which has no answers.
 pub fn refused(number: u8) -> Outcome
-    ensures { result ≡ outcome_of number 0 0 0 0 }
+    ensures { result ≡ outcome_of number None None None }
 {
     Outcome {
         status: number,
-        count: 0,
-        first: 0,
-        second: 0,
-        third: 0,
+        answers: [None; 3],
+    }
+}
+
+// What a call comes to: its refusal's number, or the outcome of what it gives.
+pub fn told<T: Drop, F: FnOnce(T) -> Outcome>(given: Result<T, Refusal>, answers: F) -> Outcome
+    requires { F.IsAlwaysCallable answers }
+    ensures answered { IfOk given (λ value. F.post answers value result) }
+    ensures refused { IfErr given (λ refusal. result ≡ outcome_of (number_of refusal) None None None) }
+{
+    match given {
+        Ok(value) => answers(value),
+        Err(refusal) => refused(refusal.number()),
     }
 }

@@ -1,15 +1,25 @@
 -- Counts, of which one goes up by one. Definitions only.
-use Rattle.std.specs.Prelude.{ℕ, ◌+◌, ◌%◌, ◌^◌, Bool, true, false, List, nat_lt, slice_index, slice_set}
+use Rattle.std.specs.Prelude.{ℕ, ◌+◌, ◌%◌, ◌^◌, Bool, true, false, List, Option, Some, None, replicate, slice_get, slice_set}
+use Rattle.replay_tally.specs.declared.Count.{Count}
 
--- the counts with the one of this number up by one; 2^64 of them count as none
-abbrev pub counted : List ℕ → ℕ → List ℕ
-counted counts number = slice_set counts number ((slice_index counts number + 1) % 2 ^ 64)
+-- one more; 2^64 count as none
+abbrev pub one_more : ℕ → ℕ
+one_more n = (n + 1) % 2 ^ 64
 
--- the same, but only where a test fails
-abbrev pub counted_unless : Bool → List ℕ → ℕ → List ℕ
-counted_unless true counts number = counts
-counted_unless false counts number = counted counts number
+-- one more that was compared, and one more that differs only where a test fails
+abbrev pub compared_by : Bool → Count → Count
+compared_by true c = record { compared = one_more c.compared; differ = c.differ }
+compared_by false c = record { compared = one_more c.compared; differ = one_more c.differ }
 
--- what there is after a record: a number beyond the 32 counts is not counted
-unfoldable pub within : ℕ → List ℕ → List ℕ → List ℕ
-within number before after = elim (nat_lt 31 number) [ true ↦ before | false ↦ after ]
+-- a count put where one stands, if one stands there
+abbrev pub set_where : List Count → ℕ → Bool → Option Count → List Count
+set_where counts number agrees (Some c) = slice_set counts number (compared_by agrees c)
+set_where counts number agrees None = counts
+
+-- the counts with the one of this number so changed; a number beyond them is not counted
+abbrev pub counted : Bool → ℕ → List Count → List Count
+counted agrees number counts = set_where counts number agrees (slice_get counts number)
+
+-- nothing is counted
+abbrev pub none_counted : List Count
+none_counted = replicate 32 (record { compared = 0; differ = 0 })

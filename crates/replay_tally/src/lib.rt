@@ -2,84 +2,147 @@
 // differ. A function's number is its place in the counts.
 #![tactic(auto)]
 
-ghost use Rattle.std.specs.Prelude.{◌≡◌, ◌<◌};
+ghost use Rattle.std.specs.Prelude.{◌≡◌};
 ghost use Rattle.replay_tally.specs.Compared.{same, stored_in};
-ghost use Rattle.replay_tally.specs.Tally.{counted, counted_unless, within};
+ghost use Rattle.replay_tally.specs.Tally.{compared_by, counted, none_counted};
 
+pub mod lines;
+
+use replay::function::{Function, numbered};
 use replay::outcome::Outcome;
-use replay::record::{Head, word};
-use replay::report;
-use std::io;
-use std::io::Write;
+use replay::record::Record;
+use replay::{record, report};
+use std::io::{Read, Write};
+use std::{fmt, io};
 
-// Whether two outcomes are the same in every place.
-pub fn agree(a: Outcome, b: Outcome) -> bool
-    ensures { result ≡ same a b }
-{
-    if a.status != b.status {
-        return false;
-    }
-    if a.count != b.count {
-        return false;
-    }
-    if a.first != b.first {
-        return false;
-    }
-    if a.second != b.second {
-        return false;
-    }
-    a.third == b.third
+// How many outcomes were compared, and how many of them differ.
+#[derive(Clone, Copy)]
+pub struct Count {
+    pub compared: u64,
+    pub differ: u64,
 }
 
-// The outcome that the record has. Where it has fewer than three answers, the words after them are 0.
-fn stored(head: Head, words: &[u8; 96]) -> Outcome
-    ensures { result ≡ stored_in head words.now }
+impl Count {
+    // One more that was compared, and one more that differs where it doesn't agree.
+    pub fn and(self, agrees: bool) -> Count
+        ensures { result ≡ compared_by agrees self }
+    {
+        let Count { compared, differ } = self;
+        Count {
+            compared: compared.wrapping_add(1),
+            differ: if agrees {
+                differ
+            } else {
+                differ.wrapping_add(1)
+            },
+        }
+    }
+}
+
+impl fmt::Display for Count {
+    fn fmt<W: fmt::Write>(&self, f: &mut fmt::Formatter<W>) -> fmt::Result {
+        let Count { compared, differ } = *self;
+        write!(f, "{compared} compared, {differ} differ")
+    }
+}
+
+// A list's functions, and what was counted of each, by its number. A head's number is below 32.
+#[derive(Clone, Copy)]
+pub struct Tally<'a> {
+    pub functions: &'a [Function],
+    pub counts: [Count; 32],
+}
+
+// The outcome that a record has.
+fn stored(record: &Record) -> Outcome
+    ensures { result ≡ stored_in «record».now }
 {
-    let place = head.arguments as usize;
+    let place = usize::from(record.head.arguments);
+    let answer = |k: u8| (k < record.head.answers).then(|| record.word(place + usize::from(k)));
     Outcome {
-        status: head.status,
-        count: head.answers,
-        first: word(words, place),
-        second: word(words, place + 1),
-        third: word(words, place + 2),
+        status: record.head.status,
+        answers: [answer(0), answer(1), answer(2)],
     }
 }
 
-fn count(counts: &mut [u64; 32], number: usize)
-    requires { number < 32 }
-    ensures { counts.new ≡ counted counts.old number }
-{
-    counts[number] = std::num::wrapping_add_u64(counts[number], 1);
+impl<'a> Tally<'a> {
+    // Nothing is counted yet.
+    pub fn new(functions: &'a [Function]) -> Tally<'a>
+        ensures { result.counts ≡ none_counted }
+    {
+        let none = Count {
+            compared: 0,
+            differ: 0,
+        };
+        Tally {
+            functions,
+            counts: [none; 32],
+        }
+    }
+
+    // Counts one more that was compared, and whether it differs. A number beyond the counts is not counted.
+    pub fn count(&mut self, number: usize, agrees: bool)
+        ensures { self.new.counts ≡ counted agrees number self.old.counts }
+    {
+        if number < self.counts.len() {
+            self.counts[number] = self.counts[number].and(agrees);
+        }
+    }
+
+    // Counts the outcome that was given, and whether it differs from the record's. Of each function the first three records
+    // that differ are shown.
+    pub fn compare<W: Write>(
+        &mut self,
+        to: &mut W,
+        record: &Record,
+        given: Outcome,
+    ) -> io::Result<()>
+        ensures { self.new.counts ≡ counted (same given (stored_in «record».now)) «record».now.head.number self.old.counts }
+    {
+        let due = stored(record);
+        let agrees = given == due;
+        let number = usize::from(record.head.number);
+        self.count(number, agrees);
+        if !agrees
+            && self
+                .counts
+                .get(number)
+                .is_some_and(|count| count.differ <= 3)
+            && let Some(function) = numbered(self.functions, record.head.number)
+        {
+            report::difference(to, function.name, record, due, given)?;
+        }
+        Ok(())
+    }
+
+    // A line for each function.
+    pub fn report<W: Write>(&self, to: &mut W) -> io::Result<()> {
+        for (function, count) in self.functions.iter().zip(&self.counts[1..]) {
+            let name = function.name;
+            writeln!(to, "{name} {count}")?;
+        }
+        Ok(())
+    }
 }
 
-// Counts the outcome that was given, and whether it differs from the record's. Of each function the first three
-// records that differ are shown. A number beyond the counts is not counted.
-pub fn compare<W: Write>(
+// Replays a list: asks for the outcome at each record, and compares it with the stored one. Nothing says that the input ends,
+// so no more than so many records are read.
+pub fn run<R: Read, W: Write, F: FnMut(&Record) -> Outcome>(
+    from: &mut R,
     to: &mut W,
-    names: &[u8],
-    head: Head,
-    words: &[u8; 96],
-    given: Outcome,
-    compared: &mut [u64; 32],
-    differ: &mut [u64; 32],
+    functions: &[Function],
+    mut ask: F,
 ) -> io::Result<()>
-    ensures compared { compared.new ≡ within head.number compared.old (counted compared.old head.number) }
-    ensures differ { differ.new ≡ within head.number differ.old
-        (counted_unless (same given (stored_in head words.now)) differ.old head.number) }
+    requires { F.IsAlwaysCallable ask }
 {
-    let number = head.number as usize;
-    if number > 31 {
-        return Ok(());
+    let mut tally = Tally::new(functions);
+    for _ in 0..u32::MAX {
+        let Some(record) = record::read(from, to, functions)? else {
+            return tally.report(to);
+        };
+        let given = ask(&record);
+        tally.compare(to, &record, given)?;
     }
-    let expected = stored(head, words);
-    count(compared, number);
-    if agree(given, expected) {
-        return Ok(());
-    }
-    let before = differ[number];
-    count(differ, number);
-    if before < 3 {
-        return report::difference(to, names, head, words, expected, given);
-    }
-    Ok(())
+    report::too_long(to)?;
+    tally.report(to)
 }

@@ -1,0 +1,19 @@
+// The functions of a list.
+ghost use Rattle.std.specs.Prelude.{◌≡◌, ◌-◌, ◌<◌, IsNone, slice_get};
+
+// A function's name, and how many arguments each of its records has. Its number is its place in the list of the functions,
+// counted from 1.
+#[derive(Clone, Copy)]
+pub struct Function {
+    pub name: &'static str,
+    pub arguments: u8,
+}
+
+// The function with a number, if there is one.
+pub fn numbered(functions: &[Function], number: u8) -> Option<Function>
+    ensures from_one { 0 < number → result ≡ slice_get functions.now (number - 1) }
+    ensures none { number ≡ 0 → IsNone result }
+{
+    let place = usize::from(number).checked_sub(1)?;
+    functions.get(place).copied()
+}
