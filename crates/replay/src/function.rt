@@ -9,6 +9,16 @@ pub struct Function {
     pub arguments: u8,
 }
 
+impl Function {
+    // A function's name, and how many arguments it has.
+    pub fn new(name: &'static str, arguments: u8) -> Function
+        ensures name { result.name.now ≡ name.now }
+        ensures arguments { result.arguments ≡ arguments }
+    {
+        Function { name, arguments }
+    }
+}
+
 // The function with a number, if there is one.
 pub fn numbered(functions: &[Function], number: u8) -> Option<Function>
     ensures from_one { 0 < number → result ≡ slice_get functions.now (number - 1) }

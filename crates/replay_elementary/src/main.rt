@@ -4,83 +4,52 @@
 // malformed.
 #![tactic(auto)]
 
-use elementary::sine::{SinCosAnswer, SineAnswer};
-use replay::outcome::{Outcome, one, refused, two};
-use replay::record::{Next, argument};
-use replay::{record, report};
-use sine::sin_cos;
+use arctangent::{atan, atan2};
+use elementary::whole::{floor, round};
+use float_parts::signs::{abs, max_zero};
+use remainder::remainder;
+use replay::function::Function;
+use replay::outcome::{Outcome, one, told, two};
+use replay::record::Record;
+use sine::{cos, sin, sin_cos, tan};
+use square_root::root::sqrt;
 use std::io;
-use std::io::{Read, Write};
 
-fn of_sine(given: SineAnswer) -> Outcome {
-    match given {
-        SineAnswer::Value(v) => one(v),
-        SineAnswer::Outside => refused(19),
-    }
-}
-
-// The outcome of the function with this number.
-fn outcome(number: u8, words: &[u8; 96]) -> Outcome {
-    let x = argument(words, 0);
-    match number {
-        1 => one(float_parts::signs::abs(x)),
-        2 => one(float_parts::signs::max_zero(x)),
-        3 => one(elementary::whole::floor(x)),
-        4 => one(elementary::whole::round(x)),
-        5 => one(square_root::root::sqrt(x)),
-        6 => of_sine(sine::sin(x)),
-        7 => of_sine(sine::cos(x)),
-        8 => of_sine(sine::tan(x)),
+// The outcome of a record's function.
+fn outcome(record: &Record) -> Outcome {
+    let x = record.argument(0);
+    match record.head.number {
+        1 => one(abs(x)),
+        2 => one(max_zero(x)),
+        3 => one(floor(x)),
+        4 => one(round(x)),
+        5 => one(sqrt(x)),
+        6 => told(sin(x), one),
+        7 => told(cos(x), one),
+        8 => told(tan(x), one),
         9 => one(arctangent_core::core(x)),
-        10 => one(arctangent::atan(x)),
-        11 => one(arctangent::atan2(x, argument(words, 1))),
-        12 => match sin_cos(x) {
-            SinCosAnswer::Value(both) => two(both.sin, both.cos),
-            SinCosAnswer::Outside => refused(19),
-        },
-        _ => one(remainder::remainder(x, argument(words, 1))),
+        10 => one(atan(x)),
+        11 => one(atan2(x, record.argument(1))),
+        12 => told(sin_cos(x), |both| two(both.sin, both.cos)),
+        _ => one(remainder(x, record.argument(1))),
     }
 }
 
-// Reads one record and replays it. Answers whether there was one.
-fn replay_next<R: Read, W: Write>(
-    from: &mut R,
-    to: &mut W,
-    names: &[u8],
-    takes: &[u8],
-    compared: &mut [u64; 32],
-    differ: &mut [u64; 32],
-) -> io::Result<bool> {
-    let mut words = [0u8; 96];
-    let next = record::read(from, to, takes, &mut words)?;
-    let Next::Record(head) = next else {
-        return Ok(false);
-    };
-    let given = outcome(head.number, &words);
-    replay_tally::compare(to, names, head, &words, given, compared, differ)?;
-    Ok(true)
-}
-
-// Nothing says that the input ends, so the loop counts its records down from more than any list has.
-fn run<R: Read, W: Write>(from: &mut R, to: &mut W, names: &[u8], takes: &[u8]) -> io::Result<()> {
-    let mut compared = [0u64; 32];
-    let mut differ = [0u64; 32];
-    let mut left: u32 = 0xffff_ffff;
-    while left > 0 && replay_next(from, to, names, takes, &mut compared, &mut differ)? {
-        left -= 1;
-    }
-    if left == 0 {
-        report::too_long(to)?;
-    }
-    report::summaries(to, names, 13, &compared, &differ)
-}
-
-// The functions' names and how many arguments each takes, by their numbers, from 1.
 fn main(rt: HostRuntime) -> io::Result<()> {
-    run(
-        &mut rt.stdin(),
-        &mut rt.stdout(),
-        b" abs max_zero floor round sqrt sin cos tan core atan atan2 sin_cos remainder",
-        b"01111111111212",
-    )
+    let functions = [
+        Function::new("abs", 1),
+        Function::new("max_zero", 1),
+        Function::new("floor", 1),
+        Function::new("round", 1),
+        Function::new("sqrt", 1),
+        Function::new("sin", 1),
+        Function::new("cos", 1),
+        Function::new("tan", 1),
+        Function::new("core", 1),
+        Function::new("atan", 1),
+        Function::new("atan2", 2),
+        Function::new("sin_cos", 1),
+        Function::new("remainder", 2),
+    ];
+    replay_tally::run(&mut rt.stdin(), &mut rt.stdout(), &functions, outcome)
 }

@@ -10,13 +10,7 @@ use answer::bits;
 pub fn lacks(buffer: &[f64], at: usize, count: usize) -> bool
     ensures { result ≡ false → at + count ≤ length buffer.now }
 {
-    if at > buffer.len() {
-        return true;
-    }
-    if buffer.len() - at < count {
-        return true;
-    }
-    false
+    buffer.get(at..).is_none_or(|rest| rest.len() < count)
 }
 
 // How many numbers of a buffer are not those of another from a place on, bit for bit: none only where each is.
@@ -27,12 +21,10 @@ pub fn unlike(buffer: &[f64], wanted: &[f64], at: usize) -> usize
         return 1;
     }
     let mut count: usize = 0;
-    let mut i: usize = 0;
-    while i < buffer.len() {
-        if bits(buffer[i]) != bits(wanted[at + i]) {
+    for (i, number) in buffer.iter().enumerate() {
+        if bits(*number) != bits(wanted[at + i]) {
             count += 1;
         }
-        i += 1;
     }
     count
 }

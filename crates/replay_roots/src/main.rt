@@ -9,17 +9,6 @@ use replay::record::Record;
 use square_root::root::{sqrt, sqrt_rounds};
 use std::io;
 
-const FUNCTIONS: [Function; 2] = [
-    Function {
-        name: "sqrt",
-        arguments: 1,
-    },
-    Function {
-        name: "sqrt_rounds",
-        arguments: 1,
-    },
-];
-
 // The outcome of a record's function.
 fn outcome(record: &Record) -> Outcome {
     let x = record.argument(0);
@@ -30,5 +19,6 @@ fn outcome(record: &Record) -> Outcome {
 }
 
 fn main(rt: HostRuntime) -> io::Result<()> {
-    replay_tally::run(&mut rt.stdin(), &mut rt.stdout(), &FUNCTIONS, outcome)
+    let functions = [Function::new("sqrt", 1), Function::new("sqrt_rounds", 1)];
+    replay_tally::run(&mut rt.stdin(), &mut rt.stdout(), &functions, outcome)
 }

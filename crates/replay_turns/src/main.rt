@@ -3,91 +3,48 @@
 // status, names each record that differs, and says so where the list is malformed.
 #![tactic(auto)]
 
-ghost use Rattle.std.specs.Prelude.{◌≡◌, ◌+◌, ◌*◌, ◌<◌, ◌≤◌, true, length};
-
+use fair_turns::fair_turns;
+use replay::function::Function;
 use replay::record::read_full;
-use replay::report;
+use replay_tally::lines;
+use replay_tally::lines::Replayed;
 use std::io;
-use std::io::{Read, Write};
+use std::io::Read;
 
-// A byte as a number of 16 bits.
-fn wide(x: u8) -> u16
-    ensures { result < 256 }
-{
-    x as u16
-}
+// A record's bytes: how many wishes and how many places are lent, the status that is due, and three runs of numbers.
+const HEAD: usize = 3;
 
-// The run of numbers that starts at a byte.
-fn numbers(record: &[u8; 123], start: usize, to: &mut [u16])
-    requires { start + 2 * length to.old ≤ 123 }
-{
-    let mut i: usize = 0;
-    while i < to.len() {
-        to[i] = wide(record[start + 2 * i]) * 256 + wide(record[start + 2 * i + 1]);
-        i += 1;
+const NUMBERS: usize = 20;
+
+const RUN: usize = 2 * NUMBERS;
+
+const SIZE: usize = HEAD + 3 * RUN;
+
+// The numbers of a run, each of two bytes, the highest first.
+fn numbers(run: &[u8]) -> [u16; NUMBERS] {
+    let mut numbers = [0u16; NUMBERS];
+    for (number, bytes) in numbers.iter_mut().zip(run.as_chunks::<2>().0) {
+        *number = u16::from_be_bytes(*bytes);
     }
+    numbers
 }
 
-// Whether all numbers are the same.
-fn same(a: &[u16], b: &[u16]) -> bool
-    ensures { result ≡ true → a.now ≡ b.now }
-{
-    if a.len() != b.len() {
+// Hands out a record's turn, and says whether the status and all places are then the stored ones.
+fn agrees(record: &[u8; SIZE]) -> bool {
+    let wishes = numbers(&record[HEAD..HEAD + RUN]);
+    let mut grants = numbers(&record[HEAD + RUN..HEAD + 2 * RUN]);
+    let after = numbers(&record[HEAD + 2 * RUN..]);
+    let n = usize::from(record[0]);
+    let m = usize::from(record[1]);
+    if n > NUMBERS || m > NUMBERS {
         return false;
     }
-    let mut i: usize = 0;
-    while i < a.len() {
-        if a[i] != b[i] {
-            return false;
-        }
-        i += 1;
-    }
-    true
+    let given = answer::status(fair_turns(&wishes[..n], &mut grants[..m]));
+    given == record[2] && grants == after
 }
 
-// Hands out a turn of n wishes to m places, and says whether the status and all places are then the stored ones.
-fn agrees(
-    wishes: &[u16],
-    n: usize,
-    grants: &mut [u16],
-    m: usize,
-    stored: u8,
-    after: &[u16],
-) -> bool {
-    if n > wishes.len() || m > grants.len() {
-        return false;
-    }
-    let given = answer::status(fair_turns::fair_turns(&wishes[..n], &mut grants[..m]));
-    given == stored && same(grants, after)
-}
-
-fn lent(x: u8) -> usize {
-    x as usize
-}
-
-// A record's turn, in room for its wishes, its places and what must stand there afterwards.
-fn replay_in(record: &[u8; 123], wishes: &mut [u16], grants: &mut [u16], after: &mut [u16]) -> bool
-    requires { (length wishes.old ≡ 20) × (length grants.old ≡ 20) × (length after.old ≡ 20) }
-{
-    numbers(record, 3, wishes);
-    numbers(record, 43, grants);
-    numbers(record, 83, after);
-    let n = lent(record[0]);
-    let m = lent(record[1]);
-    agrees(wishes, n, grants, m, record[2], after)
-}
-
-fn replay_record(record: &[u8; 123]) -> bool {
-    let mut wishes = [0u16; 20];
-    let mut grants = [0u16; 20];
-    let mut after = [0u16; 20];
-    replay_in(record, &mut wishes, &mut grants, &mut after)
-}
-
-// The line of a stored status: answered, refused with 24, refused with 25.
-fn line(status: u8) -> usize
-    ensures { result < 32 }
-{
+// The line of a stored status.
+fn line(status: u8) -> usize {
     match status {
         0 => 1,
         24 => 2,
@@ -95,56 +52,27 @@ fn line(status: u8) -> usize
     }
 }
 
-fn count(counts: &mut [u64; 32], number: usize)
-    requires { number < 32 }
-{
-    counts[number] = std::num::wrapping_add_u64(counts[number], 1);
-}
-
-fn difference<W: Write>(to: &mut W, number: u64) -> io::Result<()> {
-    writeln!(to, "record {number} differs")
-}
-
-// Reads one record and replays it. Answers whether there was one.
-fn replay_next<R: Read, W: Write>(
-    from: &mut R,
-    to: &mut W,
-    number: u64,
-    compared: &mut [u64; 32],
-    differ: &mut [u64; 32],
-) -> io::Result<bool> {
-    let mut record = [0u8; 123];
-    let size = read_full(from, &mut record)?;
-    if size == 0 {
-        return Ok(false);
-    }
-    if size < 123 {
-        report::cut_off(to)?;
-        return Ok(false);
-    }
-    let of = line(record[2]);
-    count(compared, of);
-    if !replay_record(&record) {
-        count(differ, of);
-        difference(to, number)?;
-    }
-    Ok(true)
-}
-
-// Nothing says that the input ends, so the loop counts its records up to more than any list has.
-fn run<R: Read, W: Write>(from: &mut R, to: &mut W) -> io::Result<()> {
-    let mut compared = [0u64; 32];
-    let mut differ = [0u64; 32];
-    let mut number: u64 = 0;
-    while number < 0xffff_ffff && replay_next(from, to, number, &mut compared, &mut differ)? {
-        number += 1;
-    }
-    if number == 0xffff_ffff {
-        report::too_long(to)?;
-    }
-    report::summaries(to, b" granted refused_24 refused_25", 3, &compared, &differ)
+// Reads one record and replays it.
+fn replay_next<R: Read>(from: &mut R) -> io::Result<Replayed> {
+    let mut record = [0u8; SIZE];
+    Ok(match read_full(from, &mut record)? {
+        0 => Replayed::Ended,
+        SIZE => Replayed::Compared {
+            line: line(record[2]),
+            agrees: agrees(&record),
+        },
+        _ => Replayed::CutOff,
+    })
 }
 
 fn main(rt: HostRuntime) -> io::Result<()> {
-    run(&mut rt.stdin(), &mut rt.stdout())
+    // A line for each stored status: answered, refused with 24, refused with 25.
+    let lines = [
+        Function::new("granted", 0),
+        Function::new("refused_24", 0),
+        Function::new("refused_25", 0),
+    ];
+    lines::run(&mut rt.stdin(), &mut rt.stdout(), &lines, |from| {
+        replay_next(from)
+    })
 }
