@@ -1,17 +1,20 @@
--- Eight bytes as the library reads and writes them, and doubles as bytes and back. Assumes nothing.
+-- Eight bytes as the library reads and writes them, doubles as bytes and back, and a mark of five bytes. Assumes nothing.
 use mathlib.Core.Path.{◌≡◌, refl, sym, ap, ◌∙◌}
-use mathlib.Core.Bool.{false}
+use mathlib.Core.Bool.{Bool, false, ◌&&◌, and-true}
+use mathlib.Core.Logic.{⊎_elim}
 use mathlib.Core.List.{List, [], ◌∷◌, ◌++◌, append_assoc}
-use Prim.Native.Nat.{ℕ, zero, suc, ◌+◌, ◌-◌, ◌/◌, ◌%◌, ◌^◌, ◌<◌}
+use Prim.Native.Nat.{ℕ, zero, suc, ◌+◌, ◌-◌, ◌/◌, ◌%◌, ◌^◌, ◌<◌, ◌≤◌}
 use native.Mathlib.Omega.{arith}
-use lib.Dec.{T, lit≤}
+use lib.Dec.{T, lit≤, eqb}
 use lib.ListN.{length, get_or, take, drop}
 use lib.Seq.{drop-drop}
 use lib.Ieee.{Float, binary64, of_bits, to_bits, fits, is_nan}
 use lib.Ieee.Bits.{of_bits-to_bits, to_bits-lt, to_bits-of_bits}
+use borrow.Author.Tests.{eq-eqb, ne_eqb}
 use borrow.Rule.Slice.PartMut.{put_mid}
 use Rattle.std.specs.Int.{w64, from_be_bytes, to_be_bytes}
-use Rattle.std.specs.List.{All}
+use Rattle.std.specs.List.{All, starts_with}
+use Rattle.std.proofs.lemmas.Bool.Decides.{eqb_tells}
 use Rattle.std.proofs.lemmas.Nat.{from_be_bytes-to_be_bytes_8, be_bytes_8}
 use Rattle.big_endian.specs.BigEndian.{big_endian, bytes_of, double_in, double_bytes}
 
@@ -70,3 +73,18 @@ bytes_back bs r e n =
     let l : big_endian bs < 2 ^ 64 = omega (arith, b 0, b 1, b 2, b 3, b 4, b 5, b 6, b 7, read) in
     let written = be_bytes_8 bs (big_endian bs) e b (sym read) in
     ap (bytes_of 8) (to_bits-of_bits binary64 (big_endian bs) l (rw n tt)) ∙ sym (eight_written (big_endian bs)) ∙ written
+
+-- ---- five bytes at the front
+
+eqb_sym : (a b : ℕ) → eqb a b ≡ eqb b a
+eqb_sym a b = ⊎_elim (λ p. p.0 ∙ sym (eq-eqb b a (sym p.1))) (λ p. p.0 ∙ sym (ne_eqb b a (λ e. p.1 (sym e)))) (eqb_tells a b)
+
+pub marked : (bs : List ℕ) (k l m n o : ℕ) → 5 ≤ length bs
+    → starts_with eqb bs (k ∷ l ∷ m ∷ n ∷ o ∷ [])
+    ≡ (eqb (get_or bs 0 0) k && (eqb (get_or bs 1 0) l && (eqb (get_or bs 2 0) m && (eqb (get_or bs 3 0) n && eqb (get_or bs 4 0) o))))
+marked [] k l m n o h = absurd (omega arith)
+marked (a ∷ []) k l m n o h = absurd (omega arith)
+marked (a ∷ b ∷ []) k l m n o h = absurd (omega arith)
+marked (a ∷ b ∷ c ∷ []) k l m n o h = absurd (omega arith)
+marked (a ∷ b ∷ c ∷ d ∷ []) k l m n o h = absurd (omega arith)
+marked (a ∷ b ∷ c ∷ d ∷ e ∷ bs) k l m n o h = rw (eqb_sym k a, eqb_sym l b, eqb_sym m c, eqb_sym n d, eqb_sym o e, and-true (eqb e o))

@@ -8,7 +8,8 @@ use lib.Ieee.{Float}
 use lib.Ieee.Fits.{and_l}
 use lib.ListN.{length, get_or}
 use Rattle.answer.specs.Given.{Given, answered, refused, passed}
-use Rattle.answer.specs.declared.Check.{Check}
+use Rattle.answer.specs.declared.Refusal.{Refusal}
+use Rattle.std.specs.Prelude.{Result}
 use Rattle.arithmetic.specs.Arith.{Arith}
 use Rattle.origin.specs.Table.{check_table}
 use Rattle.table_file.specs.TableFile.{SIZE, headed, table_in, file_of, table_given, file_given, Gives}
@@ -21,17 +22,13 @@ headed_size b e =
 
 -- ---- not what was asked for
 
-pub is_not : (b : Bool) → not b ≡ true → b ≡ false
-is_not true e = sym e
-is_not false e = refl
-
 pub is_so : (b : Bool) → not b ≡ false → b ≡ true
 is_so true e = refl
 is_so false e = sym e
 
 -- ---- by what is given
 
-pub gives : {X : Type 0} {g h : Given X} (a : Check) (old new : X) → g ≡ h → Gives h a old new → Gives g a old new
+pub gives : {X : Type 0} {g h : Given X} (a : Result (Unit {0}) Refusal) (old new : X) → g ≡ h → Gives h a old new → Gives g a old new
 gives a old new e r = subst (λ g. Gives g a old new) (sym e) r
 
 module _ (A : Arith) (b : List ℕ) where

@@ -1,22 +1,25 @@
 -- What is saved is loaded again, and what is loaded is saved again. Assumes nothing.
 use mathlib.Core.Path.{◌≡◌, refl, sym, ap, ◌∙◌}
-use mathlib.Core.Bool.{Bool, true, false, not, ◌&&◌}
+use mathlib.Core.Bool.{Bool, true, false, not, ◌&&◌, and_assoc}
 use mathlib.Core.List.{List, [], ◌∷◌, ◌++◌}
 use Prim.Native.Nat.{ℕ, zero, suc, ◌*◌, ◌<◌}
 use native.Mathlib.Omega.{arith}
-use lib.Dec.{eqb, eqb→eq}
+use lib.Dec.{eqb}
 use lib.ListN.{length, get_or, take, drop, length-append, length-take, length-drop, take-append-drop}
-use lib.Seq.{take_at, drop_at, drop-cons}
+use lib.Seq.{take_at, drop_at}
 use lib.Ieee.{Float, nan, inf, fin, is_nan}
 use lib.Ieee.Bits.{is_true}
-use lib.Ieee.Fits.{and_l, and_r, eq→eqb}
+use lib.Ieee.Fits.{eq→eqb}
 use Rattle.answer.specs.Given.{answered}
 use Rattle.answer.specs.Number.{is_finite}
 use Rattle.answer.proofs.Given.{refuse_answered, then_answered}
 use Rattle.arithmetic.specs.Arith.{ieee}
 use Rattle.big_endian.specs.BigEndian.{double_in, double_bytes}
+use borrow.Author.Tests.{eq-eqb}
+use Rattle.std.proofs.lemmas.Bool.Decides.{Decides-eqb}
+use Rattle.std.proofs.lemmas.Slice.Eq.{starts_is}
 use Rattle.std.proofs.lemmas.List.Elements.{All-take, All-drop, All-from_get_or}
-use Rattle.big_endian.proofs.Bytes.{length_double, double_back, bytes_back}
+use Rattle.big_endian.proofs.Bytes.{length_double, double_back, bytes_back, marked}
 use Rattle.big_endian.proofs.Bytes as held
 use Rattle.origin.specs.Table.{check_table, numbers_sound}
 use Rattle.origin.proofs.Check.{passed_sound}
@@ -82,42 +85,24 @@ bytes_from_doubles zero (x ∷ b) l r h = absurd (omega arith)
 bytes_from_doubles (suc m) b l r h =
     let eight : length (take 8 b) ≡ 8 = simp length-take (omega arith) in
     let rest : length (drop 8 b) ≡ 8 * m = simp length-drop (omega arith) in
-    let one = bytes_back (take 8 b) (All-take _ 8 b r) eight (finite_number (double_in (take 8 b)) (h 0 (omega arith))) in
-    let more = bytes_from_doubles m (drop 8 b) rest (All-drop _ 8 b r) (λ i k. h (suc i) (omega arith)) in
+    let one = bytes_back (take 8 b) (All-take (λ (x : ℕ). x < 256) 8 b r) eight (finite_number (double_in (take 8 b)) (h 0 (omega arith))) in
+    let more = bytes_from_doubles m (drop 8 b) rest (All-drop (λ (x : ℕ). x < 256) 8 b r) (λ i k. h (suc i) (omega arith)) in
     (λ i. one i ++ more i) ∙ take-append-drop 8 b
 
-module _ (b : List ℕ) (e : headed b ≡ true) where
-  first : (i : ℕ) → i < 677 → drop i b ≡ get_or b i 0 ∷ drop (suc i) b
-  first i h = let s = headed_size b e in drop-cons b i 0 (omega arith)
-
-  header_first : HEADER ++ drop 5 b ≡ b
-  unfolding headed
-  header_first =
-      let size = eqb (length b) SIZE in
-      let t0 = eqb (get_or b 0 0) 69 in
-      let t1 = eqb (get_or b 1 0) 65 in
-      let t2 = eqb (get_or b 2 0) 84 in
-      let t3 = eqb (get_or b 3 0) 0 in
-      let t4 = eqb (get_or b 4 0) 1 in
-      let five = and_r size (t0 && t1 && t2 && t3 && t4) (rw e tt) in
-      let four = and_l (t0 && t1 && t2 && t3) t4 five in
-      let three = and_l (t0 && t1 && t2) t3 four in
-      let two = and_l (t0 && t1) t2 three in
-      let b0 = eqb→eq (get_or b 0 0) 69 (and_l t0 t1 two) in
-      let b1 = eqb→eq (get_or b 1 0) 65 (and_r t0 t1 two) in
-      let b2 = eqb→eq (get_or b 2 0) 84 (and_r (t0 && t1) t2 three) in
-      let b3 = eqb→eq (get_or b 3 0) 0 (and_r (t0 && t1 && t2) t3 four) in
-      let b4 = eqb→eq (get_or b 4 0) 1 (and_r (t0 && t1 && t2 && t3) t4 five) in
-      (λ i. sym b0 i ∷ sym b1 i ∷ sym b2 i ∷ sym b3 i ∷ sym b4 i ∷ drop 5 b)
-      ∙ sym (first 0 (omega arith) ∙ ap (λ l. get_or b 0 0 ∷ l) (first 1 (omega arith) ∙ ap (λ l. get_or b 1 0 ∷ l) (first 2 (omega arith)
-      ∙ ap (λ l. get_or b 2 0 ∷ l) (first 3 (omega arith) ∙ ap (λ l. get_or b 3 0 ∷ l) (first 4 (omega arith))))))
+header_first : (b : List ℕ) → headed b ≡ true → HEADER ++ drop 5 b ≡ b
+unfolding headed
+header_first b e =
+    let size = headed_size b e in
+    let tests = simp and_assoc at (rw (eq-eqb (length b) SIZE size) at e) in
+    let starts = marked b 69 65 84 0 1 (omega arith) ∙ tests in
+    sym ((starts_is Decides-eqb b HEADER true (sym starts)).0 refl)
 
 file_back : (file : List ℕ) → held.Bytes file → headed file ≡ true → numbers_sound (table_in file) ≡ true → file_of (table_in file) ≡ file
 unfolding table_in file_of Numbers
 file_back file bytes head sound =
     let size = headed_size file head in
     let rest : length (drop 5 file) ≡ 8 * 84 = simp length-drop (omega arith) in
-    ap (λ (x : List ℕ). HEADER ++ x) (bytes_from_doubles 84 (drop 5 file) rest (All-drop _ 5 file bytes) (sound_finite (table_in file) sound))
+    ap (λ (x : List ℕ). HEADER ++ x) (bytes_from_doubles 84 (drop 5 file) rest (All-drop (λ (x : ℕ). x < 256) 5 file bytes) (sound_finite (table_in file) sound))
     ∙ header_first file head
 
 loaded_saves : (file : List ℕ) (table : List Float) → Bytes file → table_given ieee file ≡ answered table → file_given ieee table SIZE ≡ answered file
@@ -127,7 +112,7 @@ loaded_saves file table h e =
     let t = then_answered (check_table ieee (table_in file)) (answered (table_in file)) table r.1 in
     let same : table_in file ≡ table = let z = t.1 in cc in
     let head = is_so (headed file) r.0 in
-    let back = file_back file (All-from_get_or _ file 0 h) head (passed_sound ieee (table_in file) t.0) in
+    let back = file_back file (All-from_get_or (λ (x : ℕ). x < 256) file 0 h) head (passed_sound ieee (table_in file) t.0) in
     ap (λ (x : List Float). file_given ieee x SIZE) (sym same) ∙ saved ieee (table_in file) SIZE refl t.0 ∙ ap answered back
 
 pub round_trip : RoundTrip

@@ -1,9 +1,9 @@
 -- Paper 10's table file: "\"EAT\", 16-bit version 1 and twelve rows of seven doubles, all big-endian and in final origin order. .. The file is 677
 -- bytes." What loading and saving give, and what they leave. Definitions only.
-use Rattle.std.specs.Prelude.{ℕ, zero, suc, ◌≡◌, Bool, not, ◌&&◌, List, [], ◌∷◌, ◌++◌, eqb, length, get_or, take, drop, Float}
+use Rattle.std.specs.Prelude.{ℕ, zero, suc, ◌≡◌, Bool, not, ◌&&◌, List, [], ◌∷◌, ◌++◌, eqb, length, get_or, take, drop, Float, Result}
 use Rattle.answer.specs.Given.{Given, answered, refused, passed, refuse_if, and_then}
-use Rattle.answer.specs.Answer.{given_check}
-use Rattle.answer.specs.declared.Check.{Check}
+use Rattle.answer.specs.Answer.{given}
+use Rattle.answer.specs.declared.Refusal.{Refusal}
 use Rattle.arithmetic.specs.Arith.{Arith}
 use Rattle.big_endian.specs.BigEndian.{double_in, double_bytes}
 use Rattle.origin.specs.Table.{check_table}
@@ -66,7 +66,7 @@ abbrev pub leaves : {X : Type 0} → Given X → X → X
 leaves (answered x) old = x
 leaves (refused n) old = old
 
--- a call that gives g tells it as a, and turns what was lent from old into new
-pub record Gives {X : Type 0} (g : Given X) (a : Check) (old new : X) : Type 0 where
-  pub answer : given_check a ≡ told g
+-- a call that gives g returns a, and turns what was lent from old into new
+pub record Gives {X : Type 0} (g : Given X) (a : Result (Unit {0}) Refusal) (old new : X) : Type 0 where
+  pub answer : given a ≡ told g
   pub left : new ≡ leaves g old

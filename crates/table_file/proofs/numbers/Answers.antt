@@ -1,4 +1,4 @@
--- `numbers` meets its contract. The loop's invariant: the first i numbers are the file's. The measure: how many are left. Assumes nothing.
+-- `numbers` meets its contract. The loop's invariant: the first i numbers are the file's. Assumes nothing.
 use mathlib.Core.Path.{sym, ◌∙◌}
 use native.Mathlib.Omega.{arith}
 use lib.ListN.{length-set}
@@ -14,9 +14,8 @@ loop-i-preserved c =
     let b = c.args.bytes.now in
     let here = number_at b v.i (omega arith) in
     let count = table_count b in (
-      omega arith,
-      simp length-set v.invariant.1,
-      filled_on (table_in b) v.table v.i _ nan (omega arith) (omega arith) v.invariant.2 (c.read_double.ensures ∙ sym here),
+      simp length-set v.invariant.0,
+      filled_on (table_in b) v.table v.i _ nan (omega arith) (omega arith) v.invariant.1 (c.read_double.ensures ∙ sym here),
     )
 
 pub returns : goal.returns
@@ -24,4 +23,5 @@ returns c =
     let v = c.loop-i in
     let b = c.args.bytes.now in
     let count = table_count b in
-    filled_all (table_in b) v.table v.i (omega arith) (omega arith) v.invariant.2
+    let all = v.invariant.0 in
+    filled_all (table_in b) v.table v.i (omega arith) (omega arith) v.invariant.1
