@@ -28,6 +28,20 @@ impl fmt::Display for Outcome {
     }
 }
 
+// Answers that are whole numbers, or bits: they stand as they are.
+pub fn answered(answers: [Option<u64>; 3]) -> Outcome
+    ensures { result ≡ record { status = 0; answers = answers } }
+{
+    Outcome { status: 0, answers }
+}
+
+// A call that is carried out, and answers nothing.
+pub fn done(_nothing: ()) -> Outcome
+    ensures { result ≡ outcome_of 0 None None None }
+{
+    answered([None; 3])
+}
+
 // One answer.
 pub fn one(x: f64) -> Outcome
     ensures { result ≡ outcome_of 0 (Some (to_bits binary64 x)) None None }
@@ -39,30 +53,21 @@ pub fn one(x: f64) -> Outcome
 pub fn whole(n: u64) -> Outcome
     ensures { result ≡ outcome_of 0 (Some n) None None }
 {
-    Outcome {
-        status: 0,
-        answers: [Some(n), None, None],
-    }
+    answered([Some(n), None, None])
 }
 
 // Two answers.
 pub fn two(x: f64, y: f64) -> Outcome
     ensures { result ≡ outcome_of 0 (Some (to_bits binary64 x)) (Some (to_bits binary64 y)) None }
 {
-    Outcome {
-        status: 0,
-        answers: [Some(bits(x)), Some(bits(y)), None],
-    }
+    answered([Some(bits(x)), Some(bits(y)), None])
 }
 
 // Three answers.
 pub fn three(x: f64, y: f64, z: f64) -> Outcome
     ensures { result ≡ outcome_of 0 (Some (to_bits binary64 x)) (Some (to_bits binary64 y)) (Some (to_bits binary64 z)) }
 {
-    Outcome {
-        status: 0,
-        answers: [Some(bits(x)), Some(bits(y)), Some(bits(z))],
-    }
+    answered([Some(bits(x)), Some(bits(y)), Some(bits(z))])
 }
 
 // A refusal, which has no answers.

@@ -4,107 +4,66 @@
 // of each function that differ, and says so where the list is malformed.
 #![tactic(auto)]
 
-use replay::outcome::{Outcome, refused};
-use replay::record::{Next, word};
-use replay::{record, report};
+use replay::function::Function;
+use replay::outcome::{Outcome, answered, done, told, whole};
+use replay::record::Record;
 use std::io;
-use std::io::{Read, Write};
 use window::Window;
-
-// An outcome of two whole numbers.
-fn two(first: u64, second: u64) -> Outcome {
-    Outcome {
-        status: 0,
-        count: 2,
-        first: first,
-        second: second,
-        third: 0,
-    }
-}
 
 // A new window. How many it keeps is the outcome.
 fn renew(window: &mut Window) -> Outcome {
     *window = Window::new();
-    Outcome {
-        status: 0,
-        count: 1,
-        first: u64::from(window.state.kept),
-        second: 0,
-        third: 0,
-    }
+    whole(u64::from(window.state.kept))
 }
 
 // An addition. What it gives is the outcome, with no further answer.
-fn add(words: &[u8; 96], window: &mut Window) -> Outcome {
-    let minute = (word(words, 0) % 4294967296) as u32;
-    let origin = (word(words, 1) % 256) as u8;
-    refused(answer::status(window.add(minute, origin)))
+fn add(window: &mut Window, record: &Record) -> Outcome {
+    let minute = (record.word(0) % (1 << 32)) as u32;
+    let origin = (record.word(1) % (1 << 8)) as u8;
+    told(window.add(minute, origin), done)
 }
 
 // The count of an origin, and the number kept.
-fn count(words: &[u8; 96], window: &Window) -> Outcome {
-    let k = (word(words, 0) % 12) as usize;
-    two(u64::from(window.counts[k]), u64::from(window.state.kept))
+fn count(window: &Window, record: &Record) -> Outcome {
+    let origin = (record.word(0) % 12) as usize;
+    let strikes = window.counts[origin];
+    answered([
+        Some(u64::from(strikes)),
+        Some(u64::from(window.state.kept)),
+        None,
+    ])
 }
 
 // The minute and the origin of a kept strike, by its place from the oldest on.
-fn strike(words: &[u8; 96], window: &Window) -> Outcome {
-    let i = (word(words, 0) % 4096) as usize;
-    let at = (window.state.first as usize + i) % 4096;
-    two(u64::from(window.minutes[at]), u64::from(window.origins[at]))
+fn strike(window: &Window, record: &Record) -> Outcome {
+    let place = (record.word(0) % 4096) as usize;
+    let at = (window.state.first as usize + place) % 4096;
+    answered([
+        Some(u64::from(window.minutes[at])),
+        Some(u64::from(window.origins[at])),
+        None,
+    ])
 }
 
-// The outcome of the function with this number.
-fn replay_one(number: u8, words: &[u8; 96], window: &mut Window) -> Outcome {
-    match number {
+// The outcome of a record's function on the window.
+fn outcome(window: &mut Window, record: &Record) -> Outcome {
+    match record.head.number {
         1 => renew(window),
-        2 => add(words, window),
-        3 => count(words, window),
-        _ => strike(words, window),
+        2 => add(window, record),
+        3 => count(window, record),
+        _ => strike(window, record),
     }
-}
-
-// Reads one record and replays it. Answers whether there was one.
-fn replay_next<R: Read, W: Write>(
-    from: &mut R,
-    to: &mut W,
-    window: &mut Window,
-    compared: &mut [u64; 32],
-    differ: &mut [u64; 32],
-) -> io::Result<bool> {
-    let mut words = [0u8; 96];
-    let next = record::read(from, to, b"01211", &mut words)?;
-    let Next::Record(head) = next else {
-        return Ok(false);
-    };
-    let given = replay_one(head.number, &words, window);
-    replay_tally::compare(
-        to,
-        b" new add count strike",
-        head,
-        &words,
-        given,
-        compared,
-        differ,
-    )?;
-    Ok(true)
-}
-
-// Nothing says that the input ends, so the loop counts its records down from more than any list has.
-fn run<R: Read, W: Write>(from: &mut R, to: &mut W) -> io::Result<()> {
-    let mut window = Window::new();
-    let mut compared = [0u64; 32];
-    let mut differ = [0u64; 32];
-    let mut left: u32 = 0xffff_ffff;
-    while left > 0 && replay_next(from, to, &mut window, &mut compared, &mut differ)? {
-        left -= 1;
-    }
-    if left == 0 {
-        report::too_long(to)?;
-    }
-    report::summaries(to, b" new add count strike", 4, &compared, &differ)
 }
 
 fn main(rt: HostRuntime) -> io::Result<()> {
-    run(&mut rt.stdin(), &mut rt.stdout())
+    let functions = [
+        Function::new("new", 1),
+        Function::new("add", 2),
+        Function::new("count", 1),
+        Function::new("strike", 1),
+    ];
+    let mut window = Window::new();
+    replay_tally::run(&mut rt.stdin(), &mut rt.stdout(), &functions, |record| {
+        outcome(&mut window, record)
+    })
 }
