@@ -23,7 +23,7 @@ fn face_point(x: f64, y: f64) -> Face
 pub extern "C" fn a5_box_new(caption: &mut CaptionBox)
     ensures { caption.new ≡ new_box }
 {
-    *caption = caption_box::new_box();
+    *caption = CaptionBox::new();
 }
 
 // Takes one more face point in.
@@ -31,7 +31,5 @@ pub extern "C" fn a5_box_new(caption: &mut CaptionBox)
 pub extern "C" fn a5_box_take(caption: &mut CaptionBox, x: f64, y: f64) -> u8
     ensures { BoxTakes result caption.new caption.old (face x y) }
 {
-    let point = face_point(x, y);
-    let check = caption_box::take_in(caption, point);
-    answer::status(check)
+    answer::status(caption.take_in(face_point(x, y)))
 }

@@ -50,7 +50,7 @@ fn box_in(given: RegionAnswer) -> CaptionBox
             let bounds = r.bounds;
             bounds
         }
-        RegionAnswer::Refused(_) => caption_box::new_box(),
+        RegionAnswer::Refused(_) => CaptionBox::new(),
     }
 }
 

@@ -8,7 +8,7 @@ ghost use Rattle.region_work.specs.Parts.{table_of, slot_empty, nothing_seen, se
 
 use answer::Check;
 use calls::place_work;
-use caption_box::{grow, new_box};
+use caption_box::CaptionBox;
 use coordinates::coords::Face;
 use coordinates::lonlat::LonLat;
 use coordinates::vec2::Vec2;
@@ -58,7 +58,7 @@ fn slot_empty(frame: &[f64], face_store: &[f64], sphere_store: &[f64], used: Use
 fn nothing_seen() -> Seen
     ensures { result ≡ nothing_seen }
 {
-    let bounds = new_box();
+    let bounds = CaptionBox::new();
     Seen {
         origin: 0,
         differ: false,
@@ -82,7 +82,8 @@ fn see(seen: Seen, place: Place, empty: bool) -> Seen
     ensures { result ≡ seen_next seen place empty }
 {
     let before = seen.bounds;
-    let bounds = grow(before, place.face);
+    let mut bounds = before;
+    bounds.grow(place.face);
     let pending = either(seen.pending, empty);
     if before.empty {
         return Seen {

@@ -5,7 +5,6 @@
 
 mod lent;
 
-use answer::Check;
 use caption_box::CaptionBox;
 use coordinates::coords::Face;
 use coordinates::vec2::Vec2;
@@ -48,17 +47,9 @@ fn y_sides(caption: CaptionBox) -> Outcome {
     three(caption.least_y, caption.greatest_y, flag(caption.empty))
 }
 
-// A check that passes has no answers.
-fn checked(check: Check) -> Outcome {
-    match check {
-        Check::Passed => refused(0),
-        Check::Refused(n) => refused(answer::number(n)),
-    }
-}
-
 // The half of a new box that the argument names: 0.0 is x, every other number y.
 fn new_half(which: f64) -> Outcome {
-    let caption = caption_box::new_box();
+    let caption = CaptionBox::new();
     if which == 0.0 {
         x_sides(caption)
     } else {
@@ -68,14 +59,19 @@ fn new_half(which: f64) -> Outcome {
 
 // What `take_in` comes to: its check (2), and the box afterwards in two halves.
 fn taken(number: u8, words: &[u8; 96]) -> Outcome {
-    let outcome = lent::take_lent(stored_box(words), stored_point(words));
-    let check = outcome.check;
-    let caption = outcome.caption;
+    let (given, caption) = lent::take_lent(stored_box(words), stored_point(words));
     match number {
-        2 => checked(check),
+        2 => refused(answer::status(given)),
         3 => x_sides(caption),
         _ => y_sides(caption),
     }
+}
+
+// What `grow` leaves in the box.
+fn grown(words: &[u8; 96]) -> CaptionBox {
+    let mut caption = stored_box(words);
+    caption.grow(stored_point(words));
+    caption
 }
 
 // The outcome of the function with this number.
@@ -83,8 +79,8 @@ fn outcome(number: u8, words: &[u8; 96]) -> Outcome {
     match number {
         1 => new_half(argument(words, 0)),
         2..=4 => taken(number, words),
-        5 => x_sides(caption_box::grow(stored_box(words), stored_point(words))),
-        _ => y_sides(caption_box::grow(stored_box(words), stored_point(words))),
+        5 => x_sides(grown(words)),
+        _ => y_sides(grown(words)),
     }
 }
 

@@ -5,9 +5,9 @@ use Rattle.region_core.proofs.survey.see.Goals as goal
 pub returns-then-before : goal.returns-then-before
 unfolding seen_next
 returns-then-before c =
-    rw (c.either-pending.ensures, c.grow-bounds.ensures, c.if-before.true)
+    rw (c.either-pending.ensures, c.grow.ensures, c.if-before.true)
 
 pub returns : goal.returns
 unfolding seen_next
 returns c =
-    rw (c.either-differ.ensures, c.either-pending.ensures, c.grow-bounds.ensures, c.if-before.false)
+    rw (c.either-differ.ensures, c.either-pending.ensures, c.grow.ensures, c.if-before.false)
