@@ -9,7 +9,7 @@ use Rattle.calls.proofs.place.Goals as goal
 pub returns : goal.returns
 returns c =
     let worked = c.place_work-work.ensures in
-    let leaves = c.leave_place.ensures in
+    let leaves = c.leave.ensures in
     record {
       answer = leaves.answer ∙ ap answer_of worked;
       left = leaves.left ∙ left_there ieee _ _ _ worked (place_there ieee ORIGINS _ _);

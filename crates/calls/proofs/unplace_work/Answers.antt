@@ -1,48 +1,54 @@
 -- `unplace_work` meets its contract: refused by its checks, or what its core comes to. Assumes nothing.
-use mathlib.Core.Path.{◌≡◌, sym, ap, ◌∙◌}
-use Rattle.answer.specs.Given.{Given, and_then}
+use mathlib.Core.Path.{sym, ap, ◌∙◌}
 use Rattle.answer.specs.Answer.{given}
-use Rattle.answer.proofs.Given.{then_answered, then_passed, then_refused}
+use Rattle.answer.proofs.Given.{handed_on}
 use Rattle.arithmetic.specs.Arith.{ieee}
-use Rattle.coordinates.specs.Conversions.{check_face}
+use Rattle.dodecahedron.proofs.Sizes.{inverse_colatitude}
 use Rattle.origin.specs.Origins.{ORIGINS}
 use Rattle.origin.proofs.Sizes.{angle_small}
-use Prim.Native.Nat.{ℕ}
-use Rattle.set.specs.Checks.{check_call}
-use Rattle.set.specs.Outcome.{held}
-use Rattle.dodecahedron.proofs.Sizes.{inverse_colatitude}
-use Rattle.dodecahedron.proofs.Ended.{tests_on, built_in_tests, unplace_is}
-use Rattle.coordinates.specs.declared.coords.Face.{Face}
-use Rattle.set.specs.Set.{Set}
+use Rattle.dodecahedron.proofs.Ended.{built_in_tests, unplace_is}
+use Rattle.dodecahedron.proofs.Steps.{by_tests, by_own, by_core, by_end, by_answer}
 use Rattle.calls.proofs.unplace_work.Goals as goal
 
--- the checks of the call, on what it is lent
-abbrev tests : Set → ℕ → Face → Given (Unit {0})
-tests s o x = and_then (tests_on ieee ORIGINS s o) (check_face x)
+pub returns-in_err-check_call : goal.returns-in_err-check_call
+returns-in_err-check_call c =
+    let tests = built_in_tests _ _ ∙ sym c.check_call.ensures ∙ ap given c.in_err-check_call.was in
+    handed_on _ _ c.from_residual.ensures ∙ sym (unplace_is ieee ORIGINS _ _ _ ∙ by_tests _ _ _ _ _ tests)
 
-tested : (s : Set) (o : ℕ) (x : Face) {m n r : Given (Unit {0})} → m ≡ check_call s o → n ≡ check_face x
-    → r ≡ and_then m n → r ≡ tests s o x
-tested s o x e g b = rw (b, e, g, built_in_tests s o)
-
-pub returns-in-Refused : goal.returns-in-Refused
-returns-in-Refused c =
-    let a = c.args in
-    let tested_here = tested (held a.frame a.face_store a.sphere_store) a.origin a.face c.check_call-set.ensures c.check_face.ensures c.first_refusal-check.ensures in
-    let refused = sym tested_here ∙ ap given c.in-Refused.is in
-    sym (unplace_is ieee ORIGINS _ _ _ ∙ then_refused _ _ _ refused)
+pub returns-in_err-check_face : goal.returns-in_err-check_face
+returns-in_err-check_face c =
+    let tests = built_in_tests _ _ ∙ sym c.check_call.ensures ∙ ap given c.in_ok-check_call.was in
+    let own = sym c.check_face.ensures ∙ ap given c.in_err-check_face.was in
+    handed_on _ _ c.from_residual-in_err-check_face.ensures ∙ sym (unplace_is ieee ORIGINS _ _ _ ∙ by_own _ _ _ _ _ tests own)
 
 pub inverse_core-requires : goal.inverse_core-requires
 inverse_core-requires c =
-    let a = c.args in
-    let passes = sym (tested (held a.frame a.face_store a.sphere_store) a.origin a.face c.check_call-set.ensures c.check_face.ensures c.first_refusal-check.ensures) ∙ ap given c.in_default.is in
-    (sym (built_in_tests _ _) ∙ (then_answered _ _ tt passes).0, rw c.get_origin.ensures (angle_small _))
+    let set = sym c.check_call.ensures ∙ ap given c.in_ok-check_call.was in
+    (set, rw c.get_origin.ensures (angle_small _))
 
-pub finish_lon_lat-requires : goal.finish_lon_lat-requires
-finish_lon_lat-requires c w e = inverse_colatitude _ _ _ _ w (sym c.inverse_core.ensures ∙ e)
+pub returns-in_err-core : goal.returns-in_err-core
+returns-in_err-core c =
+    let tests = built_in_tests _ _ ∙ sym c.check_call.ensures ∙ ap given c.in_ok-check_call.was in
+    let own = sym c.check_face.ensures ∙ ap given c.in_ok-check_face.was in
+    let core = sym (rw c.get_origin.ensures at c.inverse_core.ensures) ∙ ap given c.in_err-core.was in
+    handed_on _ _ c.from_residual-in_err-core.ensures ∙ sym (unplace_is ieee ORIGINS _ _ _ ∙ by_core _ _ _ _ _ tests own core)
+
+pub to_lon_lat-requires : goal.to_lon_lat-requires
+to_lon_lat-requires c =
+    inverse_colatitude _ _ _ _ c.in_ok-core.core (sym c.inverse_core.ensures ∙ ap given c.in_ok-core.was)
+
+pub returns-in_err-answer : goal.returns-in_err-answer
+returns-in_err-answer c =
+    let tests = built_in_tests _ _ ∙ sym c.check_call.ensures ∙ ap given c.in_ok-check_call.was in
+    let own = sym c.check_face.ensures ∙ ap given c.in_ok-check_face.was in
+    let core = sym (rw c.get_origin.ensures at c.inverse_core.ensures) ∙ ap given c.in_ok-core.was in
+    let ends = sym (rw c.to_lon_lat.ensures at c.finite_lon_lat.ensures) ∙ ap given c.in_err-answer.was in
+    handed_on _ _ c.from_residual-in_err-answer.ensures ∙ sym (unplace_is ieee ORIGINS _ _ _ ∙ by_end _ _ _ _ _ _ tests own core ends)
 
 pub returns : goal.returns
 returns c =
-    let a = c.args in
-    let passes = sym (tested (held a.frame a.face_store a.sphere_store) a.origin a.face c.check_call-set.ensures c.check_face.ensures c.first_refusal-check.ensures) ∙ ap given c.in_default.is in
-    rw (c.finish_lon_lat.ensures, c.inverse_core.ensures, c.get_origin.ensures)
-    (sym (unplace_is ieee ORIGINS _ _ _ ∙ then_passed _ _ passes))
+    let tests = built_in_tests _ _ ∙ sym c.check_call.ensures ∙ ap given c.in_ok-check_call.was in
+    let own = sym c.check_face.ensures ∙ ap given c.in_ok-check_face.was in
+    let core = sym (rw c.get_origin.ensures at c.inverse_core.ensures) ∙ ap given c.in_ok-core.was in
+    let ends = sym (rw c.to_lon_lat.ensures at c.finite_lon_lat.ensures) ∙ ap given c.in_ok-answer.was in
+    sym (unplace_is ieee ORIGINS _ _ _ ∙ by_answer _ _ _ _ _ _ tests own core ends)

@@ -19,7 +19,7 @@ pub returns-in_err-used : goal.returns-in_err-used
 returns-in_err-used c =
     let set_passes = sym c.check_call.ensures ∙ ap given c.in_ok-check_call.was in
     let refused = sym c.take_used.ensures ∙ ap given c.in_err-used.was in
-    handed_on _ _ c.from_residual.ensures ∙ sym (taken_refused ieee _ _ _ _ _ set_passes refused)
+    handed_on _ _ c.from_residual-in_err-used.ensures ∙ sym (taken_refused ieee _ _ _ _ _ set_passes refused)
 
 pub take_face-face_triangle-requires : goal.take_face-face_triangle-requires
 take_face-face_triangle-requires c =
@@ -27,7 +27,7 @@ take_face-face_triangle-requires c =
     let fits = call_passed _ _ set_passes in
     let found = sym c.take_used.ensures ∙ ap given c.in_ok-used.was in
     let within = used_within ieee _ _ _ _ _ fits.1 found in
-    (rw c.face_slot.ensures (face_below _ c.in_ok-used.field-0.reflected within.1), fits.0.faces)
+    (rw c.face_slot.ensures (face_below _ c.in_ok-used.used.reflected within.1), fits.0.faces)
 
 pub returns : goal.returns
 unfolding face_for

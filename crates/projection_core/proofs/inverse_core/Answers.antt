@@ -21,7 +21,7 @@ pub returns-in_err-unprojected : goal.returns-in_err-unprojected
 returns-in_err-unprojected c =
     let triangles = rw c.to_polar.ensures at c.take.ensures in
     let answer = rw c.frame_constants.ensures at c.inverse.ensures in
-    handed_on _ _ c.from_residual.ensures
+    handed_on _ _ c.from_residual-in_err-unprojected.ensures
     ∙ inverse_outside ieee _ _ _ _ _ _ c.requires.0
     (sym triangles ∙ ap given c.in_ok-taken.was)
     (sym answer ∙ ap given c.in_err-unprojected.was)

@@ -14,13 +14,13 @@ returns-in_err-a c =
 pub returns-in_err-b : goal.returns-in_err-b
 unfolding sphere_built
 returns-in_err-b c =
-    handed_on _ _ c.from_residual.ensures
+    handed_on _ _ c.from_residual-in_err-b.ensures
     ∙ sym (rw (sym c.corner_vertex.ensures ∙ ap given c.in_ok-a.was, sym c.corner_vertex-2.ensures ∙ ap given c.in_err-b.was))
 
 pub returns-in_err-c : goal.returns-in_err-c
 unfolding sphere_built
 returns-in_err-c c =
-    handed_on _ _ c.from_residual.ensures
+    handed_on _ _ c.from_residual-in_err-c.ensures
     ∙ sym (rw (
       sym c.corner_vertex.ensures ∙ ap given c.in_ok-a.was,
       sym c.corner_vertex-2.ensures ∙ ap given c.in_ok-b.was,

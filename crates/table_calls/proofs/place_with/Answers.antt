@@ -8,7 +8,7 @@ use Rattle.table_calls.proofs.place_with.Goals as goal
 pub returns : goal.returns
 returns c =
     let worked = c.place_work_with-work.ensures in
-    let leaves = c.leave_place.ensures in
+    let leaves = c.leave.ensures in
     record {
       answer = leaves.answer ∙ ap answer_of worked;
       left = leaves.left ∙ left_there ieee _ _ _ worked (place_there ieee _ _ _);

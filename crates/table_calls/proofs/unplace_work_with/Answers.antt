@@ -1,34 +1,61 @@
 -- `unplace_work_with` meets its contract: refused by its checks, or what its core comes to. Assumes nothing.
-use mathlib.Core.Path.{◌≡◌, sym, ap, ◌∙◌}
+use mathlib.Core.Path.{sym, ap, ◌∙◌}
 use Rattle.answer.specs.Answer.{given}
-use Rattle.answer.proofs.Given.{then_passed, then_refused}
+use Rattle.answer.proofs.Given.{handed_on, then_passed}
 use Rattle.arithmetic.specs.Arith.{ieee}
 use Rattle.dodecahedron.proofs.Sizes.{inverse_colatitude}
 use Rattle.dodecahedron.proofs.Ended.{unplace_is}
-use Rattle.table_calls.proofs.Passed.{tested, on_origin}
+use Rattle.dodecahedron.proofs.Steps.{by_tests, by_own, by_core, by_end, by_answer}
+use Rattle.table_calls.proofs.Passed.{on_origin}
 use Rattle.table_calls.proofs.unplace_work_with.Goals as goal
 
-pub returns-in-Refused : goal.returns-in-Refused
-returns-in-Refused c =
-    let refused = tested c.check_call_with-set.ensures c.check_face.ensures c.first_refusal-check.ensures (ap given c.in-Refused.is) in
-    sym (unplace_is ieee _ _ _ _ ∙ then_refused _ _ _ refused)
+pub returns-in_err-check_call_with : goal.returns-in_err-check_call_with
+returns-in_err-check_call_with c =
+    let tests = sym c.check_call_with.ensures ∙ ap given c.in_err-check_call_with.was in
+    handed_on _ _ c.from_residual.ensures ∙ sym (unplace_is ieee _ _ _ _ ∙ by_tests _ _ _ _ _ tests)
+
+pub returns-in_err-check_face : goal.returns-in_err-check_face
+returns-in_err-check_face c =
+    let tests = sym c.check_call_with.ensures ∙ ap given c.in_ok-check_call_with.was in
+    let own = sym c.check_face.ensures ∙ ap given c.in_err-check_face.was in
+    handed_on _ _ c.from_residual-in_err-check_face.ensures ∙ sym (unplace_is ieee _ _ _ _ ∙ by_own _ _ _ _ _ tests own)
 
 pub origin_in-requires : goal.origin_in-requires
 origin_in-requires c =
-    let passes = tested c.check_call_with-set.ensures c.check_face.ensures c.first_refusal-check.ensures (ap given c.in_default.is) in
-    (on_origin _ _ _ _ passes).0.origin
+    let tests = sym c.check_call_with.ensures ∙ ap given c.in_ok-check_call_with.was in
+    let own = sym c.check_face.ensures ∙ ap given c.in_ok-check_face.was in
+    (on_origin _ _ _ _ (then_passed _ _ tests ∙ own)).0.origin
 
 pub inverse_core-requires : goal.inverse_core-requires
 inverse_core-requires c =
-    let passes = tested c.check_call_with-set.ensures c.check_face.ensures c.first_refusal-check.ensures (ap given c.in_default.is) in
-    let known = on_origin _ _ _ _ passes in
-    (known.0.set, rw c.origin_in.ensures known.0.angle)
+    let tests = sym c.check_call_with.ensures ∙ ap given c.in_ok-check_call_with.was in
+    let own = sym c.check_face.ensures ∙ ap given c.in_ok-check_face.was in
+    let known = (on_origin _ _ _ _ (then_passed _ _ tests ∙ own)).0 in
+    (known.set, rw c.origin_in.ensures known.angle)
 
-pub finish_lon_lat-requires : goal.finish_lon_lat-requires
-finish_lon_lat-requires c w e = inverse_colatitude _ _ _ _ w (sym c.inverse_core.ensures ∙ e)
+pub returns-in_err-core : goal.returns-in_err-core
+returns-in_err-core c =
+    let tests = sym c.check_call_with.ensures ∙ ap given c.in_ok-check_call_with.was in
+    let own = sym c.check_face.ensures ∙ ap given c.in_ok-check_face.was in
+    let core = sym (rw c.origin_in.ensures at c.inverse_core.ensures) ∙ ap given c.in_err-core.was in
+    handed_on _ _ c.from_residual-in_err-core.ensures ∙ sym (unplace_is ieee _ _ _ _ ∙ by_core _ _ _ _ _ tests own core)
+
+pub to_lon_lat-requires : goal.to_lon_lat-requires
+to_lon_lat-requires c =
+    inverse_colatitude _ _ _ _ c.in_ok-core.core (sym c.inverse_core.ensures ∙ ap given c.in_ok-core.was)
+
+pub returns-in_err-answer : goal.returns-in_err-answer
+returns-in_err-answer c =
+    let tests = sym c.check_call_with.ensures ∙ ap given c.in_ok-check_call_with.was in
+    let own = sym c.check_face.ensures ∙ ap given c.in_ok-check_face.was in
+    let core = sym (rw c.origin_in.ensures at c.inverse_core.ensures) ∙ ap given c.in_ok-core.was in
+    let ends = sym (rw c.to_lon_lat.ensures at c.finite_lon_lat.ensures) ∙ ap given c.in_err-answer.was in
+    handed_on _ _ c.from_residual-in_err-answer.ensures ∙ sym (unplace_is ieee _ _ _ _ ∙ by_end _ _ _ _ _ _ tests own core ends)
 
 pub returns : goal.returns
 returns c =
-    let passes = tested c.check_call_with-set.ensures c.check_face.ensures c.first_refusal-check.ensures (ap given c.in_default.is) in
-    rw (c.finish_lon_lat.ensures, c.inverse_core.ensures, c.origin_in.ensures)
-    (sym (unplace_is ieee _ _ _ _ ∙ then_passed _ _ passes))
+    let tests = sym c.check_call_with.ensures ∙ ap given c.in_ok-check_call_with.was in
+    let own = sym c.check_face.ensures ∙ ap given c.in_ok-check_face.was in
+    let core = sym (rw c.origin_in.ensures at c.inverse_core.ensures) ∙ ap given c.in_ok-core.was in
+    let ends = sym (rw c.to_lon_lat.ensures at c.finite_lon_lat.ensures) ∙ ap given c.in_ok-answer.was in
+    sym (unplace_is ieee _ _ _ _ ∙ by_answer _ _ _ _ _ _ tests own core ends)
