@@ -11,11 +11,10 @@ ghost use Rattle.origin.specs.Origins.{ORIGINS};
 ghost use Rattle.set.specs.Outcome.{lent, lent_shared};
 ghost use Rattle.place_list.specs.Lists.{step, placed_one, check_list, called, place_list_on};
 
-use answer::Check;
+use answer::Refusal;
 use coordinates::lonlat::LonLat;
 use list_parts::{check_counts, result, turns};
 use place_list::PlaceResult;
-use set::checks::first_refusal;
 use set::set::check_set;
 
 // Places one position.
@@ -39,13 +38,11 @@ fn check_list(
     sphere_store: &[f64],
     positions: usize,
     results: usize,
-) -> Check
+) -> Result<(), Refusal>
     ensures { given result ≡ check_list ieee ORIGINS (lent_shared frame face_store sphere_store).entry positions results }
 {
-    first_refusal(
-        check_set(frame, face_store, sphere_store),
-        check_counts(positions, results),
-    )
+    check_set(frame, face_store, sphere_store)?;
+    check_counts(positions, results)
 }
 
 // Places a list of positions, from first to last, and fills a result for each. A position that is refused has the number
@@ -56,7 +53,7 @@ pub fn place_list(
     sphere_store: &mut [f64],
     positions: &[LonLat],
     results: &mut [PlaceResult],
-) -> Check
+) -> Result<(), Refusal>
     ensures { called (given result) results.new (lent frame face_store sphere_store).exit
         ≡ place_list_on ieee ORIGINS (lent frame face_store sphere_store).entry positions.now results.old }
 {
@@ -68,10 +65,8 @@ pub fn place_list(
         results.len(),
     );
     let n = turns(check, positions.len());
-    let mut i: usize = 0;
-    while i < n {
+    for i in 0..n {
         results[i] = place_one(frame, face_store, sphere_store, positions[i]);
-        i += 1;
     }
     check
 }

@@ -6,49 +6,46 @@ ghost use Rattle.std.specs.Prelude.{◌≡◌};
 ghost use Rattle.answer.specs.Answer.{given};
 ghost use Rattle.place_list.specs.Lists.{result_of, check_counts, turns_of};
 
-use answer::{Check, Refusal};
-use dodecahedron::place::PlaceAnswer;
+use answer::Refusal;
+use dodecahedron::place::Place;
 use place_list::PlaceResult;
 
 // What place gave, as a result.
-pub fn result(given: PlaceAnswer) -> PlaceResult
+pub fn result(given: Result<Place, Refusal>) -> PlaceResult
     ensures { result ≡ result_of (given given) }
 {
     match given {
-        PlaceAnswer::Answered(p) => PlaceResult {
+        Ok(p) => PlaceResult {
             refusal: 0,
             origin: p.origin,
             x: p.face.0.x,
             y: p.face.0.y,
         },
-        PlaceAnswer::Refused(n) => {
-            let number = answer::number(n);
-            PlaceResult {
-                refusal: number,
-                origin: 0,
-                x: 0.0,
-                y: 0.0,
-            }
-        }
+        Err(refusal) => PlaceResult {
+            refusal: refusal.number(),
+            origin: 0,
+            x: 0.0,
+            y: 0.0,
+        },
     }
 }
 
 // 14: there is a result for each position.
-pub fn check_counts(positions: usize, results: usize) -> Check
+pub fn check_counts(positions: usize, results: usize) -> Result<(), Refusal>
     ensures { given result ≡ check_counts positions results }
 {
     if positions != results {
-        return Check::Refused(Refusal::ResultCount);
+        return Err(Refusal::ResultCount);
     }
-    Check::Passed
+    Ok(())
 }
 
 // How many positions are placed: all of them, or none by a call that is refused.
-pub fn turns(check: Check, positions: usize) -> usize
+pub fn turns(check: Result<(), Refusal>, positions: usize) -> usize
     ensures { result ≡ turns_of (given check) positions }
 {
     match check {
-        Check::Passed => positions,
-        Check::Refused(_) => 0,
+        Ok(()) => positions,
+        Err(_) => 0,
     }
 }

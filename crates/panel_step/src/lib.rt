@@ -11,17 +11,14 @@ ghost use Rattle.panel.specs.Registers.{BLOCK};
 ghost use Rattle.panel.specs.Step.{command_in, carried_out, step_on};
 ghost use Rattle.panel.specs.Results.{Carries, Steps};
 
-use answer::Check;
+use answer::Refusal;
 use calls::{place, unplace};
-use coordinates::conversions::LonLatAnswer;
 use coordinates::coords::Face;
 use coordinates::lonlat::LonLat;
-use dodecahedron::place::PlaceAnswer;
 use panel::registers::Command;
 use panel_registers::{
     asked, check_block, write_interrupt, write_lon_lat, write_place, write_refusal,
 };
-use set::checks::first_refusal;
 use set::set::check_set;
 
 // Command 1: place.
@@ -37,8 +34,8 @@ fn carry_place(
         (λ s b. carried_out ieee ORIGINS s b (Command.Place lonlat)) }
 {
     match place(frame, face_store, sphere_store, lonlat) {
-        PlaceAnswer::Answered(p) => write_place(block, p),
-        PlaceAnswer::Refused(n) => write_refusal(block, answer::number(n)),
+        Ok(p) => write_place(block, p),
+        Err(refusal) => write_refusal(block, refusal.number()),
     }
 }
 
@@ -56,8 +53,8 @@ fn carry_unplace(
         (λ s b. carried_out ieee ORIGINS s b (Command.Unplace point origin)) }
 {
     match unplace(frame, face_store, sphere_store, point, origin) {
-        LonLatAnswer::Answered(l) => write_lon_lat(block, l),
-        LonLatAnswer::Refused(n) => write_refusal(block, answer::number(n)),
+        Ok(l) => write_lon_lat(block, l),
+        Err(refusal) => write_refusal(block, refusal.number()),
     }
 }
 
@@ -82,16 +79,11 @@ pub fn step(
     face_store: &mut [f64],
     sphere_store: &mut [f64],
     block: &mut [u8],
-) -> Check
+) -> Result<(), Refusal>
     ensures { Steps (lent frame face_store sphere_store) (lent_bytes block) (given result) (step_on ieee ORIGINS) }
 {
-    let check = first_refusal(
-        check_block(block),
-        check_set(frame, face_store, sphere_store),
-    );
-    if let Check::Refused(n) = check {
-        return Check::Refused(n);
-    }
+    check_block(block)?;
+    check_set(frame, face_store, sphere_store)?;
     carry_out(frame, face_store, sphere_store, block);
-    Check::Passed
+    Ok(())
 }

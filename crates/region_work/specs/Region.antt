@@ -3,7 +3,6 @@
 -- Paper 1's placing in turn and Paper 3's box and no others. Definitions only.
 use Rattle.std.specs.Prelude.{ℕ, Bool, true, not, ◌&&◌, ◌||◌, List, [], ◌∷◌, eqb, ltb, Float, length}
 use Rattle.answer.specs.Given.{Given, answered, refused, passed, refuse_if, and_then}
-use Rattle.answer.specs.Answer.{number_of}
 use Rattle.arithmetic.specs.Arith.{Arith}
 use Rattle.coordinates.specs.CoordinateTransforms.{face}
 use Rattle.coordinates.specs.declared.coords.Face.{Face}
@@ -15,13 +14,6 @@ use Rattle.place_list.specs.declared.PlaceResult.{PlaceResult}
 use Rattle.caption_box.specs.Sides.{new_box}
 use Rattle.caption_box.specs.EveryList.{grown_all}
 use Rattle.region_work.specs.declared.region.Region.{Region}
-use Rattle.region_work.specs.declared.region.RegionAnswer.{RegionAnswer}
-use Rattle.region_work.specs.declared.region.RegionAnswer.TheVariants as region_answer
-
--- an answer's value, or the number of its refusal
-abbrev pub given : RegionAnswer → Given Region
-given (region_answer.Answered r) = answered r
-given (region_answer.Refused n) = refused (number_of n)
 
 -- ---- the refusals
 

@@ -1,5 +1,4 @@
 // What a region answers.
-use answer::Refusal;
 use caption_box::CaptionBox;
 
 // The origin on whose face all positions lie, and the box round their face points.
@@ -7,10 +6,4 @@ use caption_box::CaptionBox;
 pub struct Region {
     pub origin: u8,
     pub bounds: CaptionBox,
-}
-
-#[derive(Clone, Copy)]
-pub enum RegionAnswer {
-    Answered(Region),
-    Refused(Refusal),
 }

@@ -4,20 +4,11 @@
 use Rattle.std.specs.Prelude.{ℕ, ◌+◌, ◌*◌, ◌≡◌, Bool, true, false, not, List, [], eqb, leb, length, Float}
 use Rattle.std.specs.Borrow.{Bor}
 use Rattle.answer.specs.Given.{Given, answered, refused, refuse_if}
-use Rattle.answer.specs.Answer.{number_of}
 use Rattle.set.specs.Sizes.{FACE_SLOTS, FACE_COORDINATES, FACE_WIDTH, FACE_STORE}
 use Rattle.set.specs.Sizes.{SPHERE_SLOTS, SPHERE_COORDINATES, SPHERE_WIDTH, SPHERE_STORE}
 use Rattle.stores.specs.Slots.{run, filled}
 use Rattle.show.specs.declared.StoreKind.{StoreKind}
 use Rattle.show.specs.declared.StoreKind.TheVariants as kind
-use Rattle.show.specs.declared.SlotState.{SlotState}
-use Rattle.show.specs.declared.SlotState.TheVariants as state
-
--- answered with whether the slot is filled
-abbrev pub given_state : SlotState → Given Bool
-given_state state.Filled = answered true
-given_state state.Empty = answered false
-given_state (state.Refused n) = refused (number_of n)
 
 -- ---- the store named
 

@@ -2,9 +2,9 @@
 #![tactic(auto)]
 
 ghost use Rattle.std.specs.Prelude.{◌≡◌, ◌+◌, ◌<◌, ◌≤◌, length};
-ghost use Rattle.answer.specs.Given.{answered};
+ghost use Rattle.answer.specs.Answer.{given};
 ghost use Rattle.stores.specs.Slots.{filled};
-ghost use Rattle.show.specs.Show.{given_state, slot_given, PartOf, Shows};
+ghost use Rattle.show.specs.Show.{slot_given, PartOf, Shows};
 
 use answer::Refusal;
 use set::sizes::{
@@ -19,52 +19,41 @@ pub enum StoreKind {
     Sphere,
 }
 
-// What the companion answers of a slot.
-#[derive(Clone, Copy)]
-pub enum SlotState {
-    Filled,
-    Empty,
-    Refused(Refusal),
-}
-
-// The state by the mark at the start of a slot.
-fn state_at(store: &[f64], at: usize) -> SlotState
+// Whether the slot that starts at a place is filled, by its mark.
+fn state_at(store: &[f64], at: usize) -> bool
     requires { at < length store.now }
-    ensures { given_state result ≡ answered (filled store.now at) }
+    ensures { result ≡ filled store.now at }
 {
-    match store[at] == 1.0 {
-        true => SlotState::Filled,
-        false => SlotState::Empty,
-    }
+    store[at] == 1.0
 }
 
-// The companion: 2, 3, 10, and then whether the slot is filled.
+// The companion: 2, 3, 10, and otherwise whether the slot is filled.
 pub fn slot_state(
     face_store: &[f64],
     sphere_store: &[f64],
     kind: StoreKind,
     slot: usize,
-) -> SlotState
-    ensures { given_state result ≡ slot_given face_store.now sphere_store.now kind slot }
+) -> Result<bool, Refusal>
+    ensures { given result ≡ slot_given face_store.now sphere_store.now kind slot }
 {
     if face_store.len() != FACE_STORE {
-        return SlotState::Refused(Refusal::FaceStoreLength);
+        return Err(Refusal::FaceStoreLength);
     }
     if sphere_store.len() != SPHERE_STORE {
-        return SlotState::Refused(Refusal::SphereStoreLength);
+        return Err(Refusal::SphereStoreLength);
     }
     match kind {
         StoreKind::Face => {
             if slot >= FACE_SLOTS {
-                return SlotState::Refused(Refusal::UnknownSlot);
+                return Err(Refusal::UnknownSlot);
             }
-            state_at(face_store, slot * FACE_WIDTH)
+            Ok(state_at(face_store, slot * FACE_WIDTH))
         }
         StoreKind::Sphere => {
             if slot >= SPHERE_SLOTS {
-                return SlotState::Refused(Refusal::UnknownSlot);
+                return Err(Refusal::UnknownSlot);
             }
-            state_at(sphere_store, slot * SPHERE_WIDTH)
+            Ok(state_at(sphere_store, slot * SPHERE_WIDTH))
         }
     }
 }
@@ -88,11 +77,10 @@ pub fn show<'a>(
     ensures { Shows face_store.entry sphere_store.entry kind slot result }
 {
     match slot_state(face_store, sphere_store, kind, slot) {
-        SlotState::Filled => match kind {
+        Ok(true) => match kind {
             StoreKind::Face => coordinates(face_store, slot * FACE_WIDTH, FACE_COORDINATES),
             StoreKind::Sphere => coordinates(sphere_store, slot * SPHERE_WIDTH, SPHERE_COORDINATES),
         },
-        SlotState::Empty => &face_store[0..0],
-        SlotState::Refused(_) => &face_store[0..0],
+        Ok(false) | Err(_) => &face_store[0..0],
     }
 }

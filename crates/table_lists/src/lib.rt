@@ -8,11 +8,11 @@ ghost use Rattle.arithmetic.specs.Arith.{ieee};
 ghost use Rattle.set.specs.Outcome.{lent, lent_shared};
 ghost use Rattle.place_list.specs.Lists.{step, placed_one, check_list, called, place_list_on};
 
-use answer::Check;
+use answer::Refusal;
 use coordinates::lonlat::LonLat;
 use list_parts::{check_counts, result, turns};
 use place_list::PlaceResult;
-use set::checks::{check_with, first_refusal};
+use set::checks::check_with;
 
 // Places one position with a table.
 fn place_one_with(
@@ -37,12 +37,11 @@ fn check_list_with(
     sphere_store: &[f64],
     positions: usize,
     results: usize,
-) -> Check
+) -> Result<(), Refusal>
     ensures { given result ≡ check_list ieee table (lent_shared frame face_store sphere_store).entry positions results }
 {
-    let set = check_with(&table, frame, face_store, sphere_store);
-    let counts = check_counts(positions, results);
-    first_refusal(set, counts)
+    check_with(&table, frame, face_store, sphere_store)?;
+    check_counts(positions, results)
 }
 
 // Places a list of positions with a table, from first to last, and fills a result for each. A position that is refused has
@@ -54,7 +53,7 @@ pub fn place_list_with(
     sphere_store: &mut [f64],
     positions: &[LonLat],
     results: &mut [PlaceResult],
-) -> Check
+) -> Result<(), Refusal>
     ensures { called (given result) results.new (lent frame face_store sphere_store).exit
         ≡ place_list_on ieee table (lent frame face_store sphere_store).entry positions.now results.old }
 {
@@ -67,10 +66,8 @@ pub fn place_list_with(
         results.len(),
     );
     let n = turns(check, positions.len());
-    let mut i: usize = 0;
-    while i < n {
+    for i in 0..n {
         results[i] = place_one_with(table, frame, face_store, sphere_store, positions[i]);
-        i += 1;
     }
     check
 }

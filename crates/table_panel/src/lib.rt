@@ -10,16 +10,14 @@ ghost use Rattle.panel.specs.Registers.{BLOCK};
 ghost use Rattle.panel.specs.Step.{command_in, carried_out, step_on};
 ghost use Rattle.panel.specs.Results.{Carries, Steps};
 
-use answer::Check;
-use coordinates::conversions::LonLatAnswer;
+use answer::Refusal;
 use coordinates::coords::Face;
 use coordinates::lonlat::LonLat;
-use dodecahedron::place::PlaceAnswer;
 use panel::registers::Command;
 use panel_registers::{
     asked, check_block, write_interrupt, write_lon_lat, write_place, write_refusal,
 };
-use set::checks::{check_with, first_refusal};
+use set::checks::check_with;
 use table_calls::{place_with, unplace_with};
 
 // Command 1: place.
@@ -36,8 +34,8 @@ fn carry_place_with(
         (λ s b. carried_out ieee table s b (Command.Place lonlat)) }
 {
     match place_with(table, frame, face_store, sphere_store, lonlat) {
-        PlaceAnswer::Answered(p) => write_place(block, p),
-        PlaceAnswer::Refused(n) => write_refusal(block, answer::number(n)),
+        Ok(p) => write_place(block, p),
+        Err(refusal) => write_refusal(block, refusal.number()),
     }
 }
 
@@ -56,8 +54,8 @@ fn carry_unplace_with(
         (λ s b. carried_out ieee table s b (Command.Unplace point origin)) }
 {
     match unplace_with(table, frame, face_store, sphere_store, point, origin) {
-        LonLatAnswer::Answered(l) => write_lon_lat(block, l),
-        LonLatAnswer::Refused(n) => write_refusal(block, answer::number(n)),
+        Ok(l) => write_lon_lat(block, l),
+        Err(refusal) => write_refusal(block, refusal.number()),
     }
 }
 
@@ -97,16 +95,11 @@ pub fn step_with(
     face_store: &mut [f64],
     sphere_store: &mut [f64],
     block: &mut [u8],
-) -> Check
+) -> Result<(), Refusal>
     ensures { Steps (lent frame face_store sphere_store) (lent_bytes block) (given result) (step_on ieee table) }
 {
-    let check = first_refusal(
-        check_block(block),
-        check_with(&table, frame, face_store, sphere_store),
-    );
-    if let Check::Refused(n) = check {
-        return Check::Refused(n);
-    }
+    check_block(block)?;
+    check_with(&table, frame, face_store, sphere_store)?;
     carry_out_with(table, frame, face_store, sphere_store, block);
-    Check::Passed
+    Ok(())
 }

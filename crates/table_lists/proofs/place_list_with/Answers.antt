@@ -8,18 +8,18 @@ use Rattle.list_parts.proofs.Kept.{not_turned, turned_next, turned_end}
 use Rattle.table_lists.proofs.place_list_with.Goals as goal
 
 pub loop-i-init : goal.loop-i-init
-loop-i-init c = (omega arith, not_turned c.args.table _ _ _)
+loop-i-init c = not_turned c.args.table _ _ _
 
 pub bounds-results-i : goal.bounds-results-i
 bounds-results-i c =
-    let at = c.loop-i.invariant.1 in
+    let at = c.loop-i.invariant in
     let placed : c.loop-i.i < turns_of (given c.check_list_with-check.result) (length c.args.positions.now) = omega arith in
     let inside = within ieee c.args.table _ _ _ _ _ c.check_list_with-check.ensures placed in
     omega (arith, inside.1, ap length at.results_are ∙ at.kept.results)
 
 pub loop-i-preserved : goal.loop-i-preserved
 loop-i-preserved c =
-    (omega arith, rw add-one (turned_next c.args.table _ _ _ c.loop-i.i _ c.loop-i.invariant.1 c.place_one_with.ensures c.place_one_with.auto.face_store c.place_one_with.auto.sphere_store))
+    rw add-one (turned_next c.args.table _ _ _ c.loop-i.i _ c.loop-i.invariant c.place_one_with.ensures c.place_one_with.auto.face_store c.place_one_with.auto.sphere_store)
 
 pub returns : goal.returns
-returns c = turned_end c.args.table _ _ _ _ c.loop-i.i c.loop-i.invariant.1 c.check_list_with-check.ensures (omega arith)
+returns c = turned_end c.args.table _ _ _ _ c.loop-i.i c.loop-i.invariant c.check_list_with-check.ensures (omega arith)
