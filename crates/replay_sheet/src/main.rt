@@ -3,121 +3,75 @@
 // how many differ, names each that differs, and says so where the list is malformed.
 #![tactic(auto)]
 
-ghost use Rattle.std.specs.Prelude.{◌≡◌, ◌<◌};
-
 use replay::record::read_full;
+use replay_tally::Count;
+use replay_tally::lines::Replayed;
 use std::io;
 use std::io::{Read, Write};
 
-// What a record comes to.
-#[derive(Clone, Copy)]
-enum Next {
-    Agrees,
-    Differs,
-    Malformed,
-    Done,
-}
+// A record's head: twelve counts of four bytes, how many bytes of the room are lent, and the status that is due.
+const HEAD: usize = 51;
 
-// A byte as a number of 32 bits.
-fn wide(x: u8) -> u32
-    ensures same { result ≡ x }
-    ensures small { result < 256 }
-{
-    x as u32
-}
-
-// Four bytes as a number, the highest first.
-fn of_four(a: u8, b: u8, c: u8, d: u8) -> u32 {
-    wide(a) * 16777216 + wide(b) * 65536 + wide(c) * 256 + wide(d)
-}
+// All bytes of the room follow, as they should be after the call. A page is a few less.
+const ROOM: usize = 4864;
 
 // The twelve counts at a record's start, each of four bytes, the highest first.
-fn counts_of(head: &[u8; 51]) -> [u32; 12] {
+fn counts_of(head: &[u8; HEAD]) -> [u32; 12] {
     let mut counts = [0u32; 12];
-    let mut k: usize = 0;
-    while k < 12 {
-        let at = 4 * k;
-        counts[k] = of_four(head[at], head[at + 1], head[at + 2], head[at + 3]);
-        k += 1;
+    for (count, bytes) in counts.iter_mut().zip(head.as_chunks::<4>().0) {
+        *count = u32::from_be_bytes(*bytes);
     }
     counts
 }
 
-// Whether all bytes of the room are the wanted ones.
-fn is_same(room: &[u8; 4864], wanted: &[u8; 4864]) -> bool {
-    let mut i: usize = 0;
-    while i < 4864 {
-        if room[i] != wanted[i] {
-            return false;
-        }
-        i += 1;
-    }
-    true
-}
-
 // Prints on the first bytes of the room, as many as the record says.
-fn print(head: &[u8; 51], room: &mut [u8]) -> u8 {
-    let lent = (wide(head[48]) * 256 + wide(head[49])) as usize;
-    if lent > room.len() {
+fn print(head: &[u8; HEAD], room: &mut [u8; ROOM]) -> u8 {
+    let lent = usize::from(u16::from_be_bytes([head[48], head[49]]));
+    if lent > ROOM {
         return 255;
     }
-    let counts = counts_of(head);
-    let given = sheet::print(counts, &mut room[..lent]);
-    answer::status(given)
+    answer::status(sheet::print(counts_of(head), &mut room[..lent]))
 }
 
 // Prints the next record, if there is one, and compares.
-fn replay_next<R: Read>(from: &mut R) -> io::Result<Next> {
-    let mut head = [0u8; 51];
-    let mut wanted = [0u8; 4864];
-    let mut room = [b'#'; 4864];
-    let n = read_full(from, &mut head)?;
-    if n == 0 {
-        return Ok(Next::Done);
+fn replay_next<R: Read>(from: &mut R) -> io::Result<Replayed> {
+    let mut head = [0u8; HEAD];
+    let mut wanted = [0u8; ROOM];
+    let mut room = [b'#'; ROOM];
+    let size = read_full(from, &mut head)?;
+    if size == 0 {
+        return Ok(Replayed::Ended);
     }
-    if n < 51 {
-        return Ok(Next::Malformed);
-    }
-    let m = read_full(from, &mut wanted)?;
-    if m < 4864 {
-        return Ok(Next::Malformed);
+    if size < HEAD || read_full(from, &mut wanted)? < ROOM {
+        return Ok(Replayed::CutOff);
     }
     let given = print(&head, &mut room);
-    if given != head[50] {
-        return Ok(Next::Differs);
-    }
-    match is_same(&room, &wanted) {
-        true => Ok(Next::Agrees),
-        false => Ok(Next::Differs),
-    }
+    Ok(Replayed::Compared {
+        line: 1,
+        agrees: given == head[50] && room == wanted,
+    })
 }
 
-// Nothing says that the input ends, so the loop counts its records down from more than any list has.
+// Nothing says that the input ends, so no more than so many records are read.
 fn run<R: Read, W: Write>(from: &mut R, to: &mut W) -> io::Result<()> {
-    let mut compared: u64 = 0;
-    let mut differ: u64 = 0;
-    let mut left: u32 = 0xffff_ffff;
-    let mut more = true;
-    while left > 0 && more {
+    let mut count = Count::NONE;
+    for _ in 0..u32::MAX {
         match replay_next(from)? {
-            Next::Agrees => {
-                compared = std::num::wrapping_add_u64(compared, 1);
+            Replayed::Ended => break,
+            Replayed::CutOff => {
+                writeln!(to, "malformed list")?;
+                break;
             }
-            Next::Differs => {
-                compared = std::num::wrapping_add_u64(compared, 1);
-                differ = std::num::wrapping_add_u64(differ, 1);
-                writeln!(to, "differs: page {compared}")?;
-            }
-            Next::Malformed => {
-                to.write_all(b"malformed list\n")?;
-                more = false;
-            }
-            Next::Done => {
-                more = false;
+            Replayed::Compared { agrees, .. } => {
+                count = count.and(agrees);
+                if !agrees {
+                    let page = count.compared;
+                    writeln!(to, "differs: page {page}")?;
+                }
             }
         }
-        left -= 1;
     }
+    let Count { compared, differ } = count;
     writeln!(to, "{compared} pages compared, {differ} differ")
 }
 

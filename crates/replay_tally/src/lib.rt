@@ -23,6 +23,12 @@ pub struct Count {
 }
 
 impl Count {
+    // Nothing is counted yet.
+    pub const NONE: Count = Count {
+        compared: 0,
+        differ: 0,
+    };
+
     // One more that was compared, and one more that differs where it doesn't agree.
     pub fn and(self, agrees: bool) -> Count
         ensures { result ≡ compared_by agrees self }
@@ -70,13 +76,9 @@ impl<'a> Tally<'a> {
     pub fn new(functions: &'a [Function]) -> Tally<'a>
         ensures { result.counts ≡ none_counted }
     {
-        let none = Count {
-            compared: 0,
-            differ: 0,
-        };
         Tally {
             functions,
-            counts: [none; 32],
+            counts: [Count::NONE; 32],
         }
     }
 
