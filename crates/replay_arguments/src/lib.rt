@@ -1,4 +1,5 @@
-// A record's arguments as the values of crate coordinates, from a place on, in the order of their fields.
+// A record's arguments as the values of crate coordinates, from a place on, in the order of their fields, and such values as
+// answers.
 #![tactic(auto)]
 
 ghost use Rattle.std.specs.Prelude.{◌<◌};
@@ -10,80 +11,93 @@ use coordinates::polar::Polar;
 use coordinates::spherical::Spherical;
 use coordinates::vec2::Vec2;
 use coordinates::vec3::Vec3;
-use replay::record::argument;
+use replay::record::Record;
+
+pub mod answers;
+
+// Two arguments, from a place on.
+fn pair(record: &Record, place: usize) -> [f64; 2]
+    requires { place < 260 }
+{
+    [record.argument(place), record.argument(place + 1)]
+}
+
+// Three arguments, from a place on.
+fn triple(record: &Record, place: usize) -> [f64; 3]
+    requires { place < 260 }
+{
+    let [x, y] = pair(record, place);
+    [x, y, record.argument(place + 2)]
+}
 
 // The first argument, in degrees.
-pub fn degrees(words: &[u8; 96]) -> Degrees {
-    Degrees(argument(words, 0))
+pub fn degrees(record: &Record) -> Degrees {
+    Degrees(record.argument(0))
 }
 
 // The first argument, in radians.
-pub fn radians(words: &[u8; 96]) -> Radians {
-    Radians(argument(words, 0))
+pub fn radians(record: &Record) -> Radians {
+    Radians(record.argument(0))
 }
 
 // Longitude and latitude, the first two.
-pub fn lon_lat(words: &[u8; 96]) -> LonLat {
+pub fn lon_lat(record: &Record) -> LonLat {
+    let [longitude, latitude] = pair(record, 0);
     LonLat {
-        longitude: Degrees(argument(words, 0)),
-        latitude: Degrees(argument(words, 1)),
+        longitude: Degrees(longitude),
+        latitude: Degrees(latitude),
     }
 }
 
 // Rho and gamma, the first two.
-pub fn polar(words: &[u8; 96]) -> Polar {
+pub fn polar(record: &Record) -> Polar {
+    let [rho, gamma] = pair(record, 0);
     Polar {
-        rho: argument(words, 0),
-        gamma: Radians(argument(words, 1)),
+        rho,
+        gamma: Radians(gamma),
     }
 }
 
 // Theta and phi, from a place on.
-pub fn spherical(words: &[u8; 96], place: u8) -> Spherical {
+pub fn spherical(record: &Record, place: u8) -> Spherical {
+    let [theta, phi] = pair(record, usize::from(place));
     Spherical {
-        theta: Radians(argument(words, place as usize)),
-        phi: Radians(argument(words, place as usize + 1)),
+        theta: Radians(theta),
+        phi: Radians(phi),
     }
 }
 
 // u, v and w, the first three.
-pub fn barycentric(words: &[u8; 96]) -> Barycentric {
-    Barycentric {
-        u: argument(words, 0),
-        v: argument(words, 1),
-        w: argument(words, 2),
-    }
+pub fn barycentric(record: &Record) -> Barycentric {
+    let [u, v, w] = triple(record, 0);
+    Barycentric { u, v, w }
 }
 
 // x and y, from a place on.
-fn face_at(words: &[u8; 96], place: usize) -> Face
+fn face_at(record: &Record, place: usize) -> Face
     requires { place < 260 }
 {
-    Face(Vec2 {
-        x: argument(words, place),
-        y: argument(words, place + 1),
-    })
+    let [x, y] = pair(record, place);
+    Face(Vec2 { x, y })
 }
 
 // A face point: x and y, from a place on.
-pub fn face(words: &[u8; 96], place: u8) -> Face {
-    face_at(words, place as usize)
+pub fn face(record: &Record, place: u8) -> Face {
+    face_at(record, usize::from(place))
 }
 
 // A face triangle: x and y of a, b and c, from a place on.
-pub fn triangle(words: &[u8; 96], place: u8) -> FaceTriangle {
+pub fn triangle(record: &Record, place: u8) -> FaceTriangle {
+    let at = usize::from(place);
     FaceTriangle {
-        a: face_at(words, place as usize),
-        b: face_at(words, place as usize + 2),
-        c: face_at(words, place as usize + 4),
+        a: face_at(record, at),
+        b: face_at(record, at + 2),
+        c: face_at(record, at + 4),
     }
 }
 
 // x, y and z, from a place on.
-pub fn cartesian(words: &[u8; 96], place: u8) -> Cartesian {
-    Cartesian(Vec3 {
-        x: argument(words, place as usize),
-        y: argument(words, place as usize + 1),
-        z: argument(words, place as usize + 2),
-    })
+pub fn cartesian(record: &Record, place: u8) -> Cartesian {
+    let [x, y, z] = triple(record, usize::from(place));
+    Cartesian(Vec3 { x, y, z })
 }

@@ -5,75 +5,61 @@
 
 mod ask;
 
-use replay::outcome::Outcome;
-use replay::record::Next;
-use replay::{record, report};
+use geographic::{deg_to_rad, normalize_longitude, rad_to_deg};
+use plane::to_polar;
+use replay::function::Function;
+use replay::outcome::{Outcome, one, told};
+use replay::record::Record;
+use replay_arguments::{answers, cartesian, degrees, face, lon_lat, polar, radians, spherical};
 use std::io;
-use std::io::{Read, Write};
+use transforms::conversions::{from_lon_lat, to_lon_lat};
+use transforms::coordinate_transforms::to_spherical;
+use transforms::gnomonic;
 
-// The outcome of the function with this number.
-fn outcome(number: u8, words: &[u8; 96]) -> Outcome {
-    match number {
-        1 => ask::deg_to_rad(words),
-        2 => ask::rad_to_deg(words),
-        3 => ask::to_polar(words),
-        4 => ask::to_face(words),
-        5 => ask::face_to_barycentric(words),
-        6 => ask::barycentric_to_face(words),
-        7 => ask::to_spherical(words),
-        8 => ask::to_cartesian(words),
-        9 => ask::normalize_longitude(words),
-        10 => ask::authalic_forward(words),
-        11 => ask::authalic_inverse(words),
-        12 => ask::gnomonic_forward(words),
-        13 => ask::gnomonic_inverse(words),
-        14 => ask::triple_product(words),
-        15 => ask::length(words),
-        16 => ask::vec3_distance(words),
-        17 => ask::from_lon_lat(words),
-        _ => ask::to_lon_lat(words),
+// The outcome of a record's function.
+fn outcome(record: &Record) -> Outcome {
+    match record.head.number {
+        1 => one(deg_to_rad(degrees(record)).0),
+        2 => one(rad_to_deg(radians(record)).0),
+        3 => answers::polar(to_polar(face(record, 0))),
+        4 => told(ask::to_face(record), answers::face),
+        5 => ask::face_to_barycentric(record),
+        6 => ask::barycentric_to_face(record),
+        7 => answers::spherical(to_spherical(cartesian(record, 0))),
+        8 => told(ask::to_cartesian(record), answers::cartesian),
+        9 => one(normalize_longitude(degrees(record)).0),
+        10 => told(ask::authalic_forward(record), |phi| one(phi.0)),
+        11 => told(ask::authalic_inverse(record), |phi| one(phi.0)),
+        12 => told(ask::gnomonic_forward(record), answers::polar),
+        13 => answers::spherical(gnomonic::inverse(polar(record))),
+        14 => ask::triple_product(record),
+        15 => one(vector::length(cartesian(record, 0))),
+        16 => ask::vec3_distance(record),
+        17 => told(from_lon_lat(lon_lat(record)), answers::spherical),
+        _ => told(to_lon_lat(spherical(record, 0)), answers::lon_lat),
     }
 }
 
-// Reads one record and replays it. Answers whether there was one.
-fn replay_next<R: Read, W: Write>(
-    from: &mut R,
-    to: &mut W,
-    names: &[u8],
-    takes: &[u8],
-    compared: &mut [u64; 32],
-    differ: &mut [u64; 32],
-) -> io::Result<bool> {
-    let mut words = [0u8; 96];
-    let next = record::read(from, to, takes, &mut words)?;
-    let Next::Record(head) = next else {
-        return Ok(false);
-    };
-    let given = outcome(head.number, &words);
-    replay_tally::compare(to, names, head, &words, given, compared, differ)?;
-    Ok(true)
-}
-
-// Nothing says that the input ends, so the loop counts its records down from more than any list has.
-fn run<R: Read, W: Write>(from: &mut R, to: &mut W, names: &[u8], takes: &[u8]) -> io::Result<()> {
-    let mut compared = [0u64; 32];
-    let mut differ = [0u64; 32];
-    let mut left: u32 = 0xffff_ffff;
-    while left > 0 && replay_next(from, to, names, takes, &mut compared, &mut differ)? {
-        left -= 1;
-    }
-    if left == 0 {
-        report::too_long(to)?;
-    }
-    report::summaries(to, names, 18, &compared, &differ)
-}
-
-// The functions' names and how many arguments each takes, by their numbers, from 1.
 fn main(rt: HostRuntime) -> io::Result<()> {
-    run(
-        &mut rt.stdin(),
-        &mut rt.stdout(),
-        b" deg_to_rad rad_to_deg to_polar to_face face_to_barycentric barycentric_to_face to_spherical to_cartesian normalize_longitude authalic::forward authalic::inverse gnomonic::forward gnomonic::inverse triple_product length vec3_distance from_lon_lat to_lon_lat",
-        b"0112289321112293622",
-    )
+    let functions = [
+        Function::new("deg_to_rad", 1),
+        Function::new("rad_to_deg", 1),
+        Function::new("to_polar", 2),
+        Function::new("to_face", 2),
+        Function::new("face_to_barycentric", 8),
+        Function::new("barycentric_to_face", 9),
+        Function::new("to_spherical", 3),
+        Function::new("to_cartesian", 2),
+        Function::new("normalize_longitude", 1),
+        Function::new("authalic::forward", 1),
+        Function::new("authalic::inverse", 1),
+        Function::new("gnomonic::forward", 2),
+        Function::new("gnomonic::inverse", 2),
+        Function::new("triple_product", 9),
+        Function::new("length", 3),
+        Function::new("vec3_distance", 6),
+        Function::new("from_lon_lat", 2),
+        Function::new("to_lon_lat", 2),
+    ];
+    replay_tally::run(&mut rt.stdin(), &mut rt.stdout(), &functions, outcome)
 }
