@@ -4,7 +4,10 @@ use mathlib.Core.Bool.{Bool, true, false, ◌&&◌, true≢false}
 use Prim.Native.Nat.{ℕ, ◌<◌}
 use native.Mathlib.Omega.{arith}
 use borrow.Author.Tests.{ltb-true, lt-ltb}
-use lib.Dec.{ltb}
+use Rattle.std.specs.Prelude.{Result, Ok, Err}
+use Rattle.std.specs.Result.{is_ok}
+use Rattle.answer.specs.Answer.{given}
+use Rattle.answer.specs.declared.Refusal.{Refusal}
 use Rattle.answer.specs.Given.{Given, answered, refused, passed}
 use Rattle.arithmetic.specs.Arith.{Arith}
 use Rattle.set.specs.Sizes.{FACE_SLOTS, SPHERE_SLOTS}
@@ -39,19 +42,12 @@ passes_passed : (g : Given (Unit {0})) → passes g ≡ true → g ≡ passed
 passes_passed (answered u) e = refl
 passes_passed (refused n) e = absurd (true≢false (sym e))
 
+-- a check that is told by what it returns
+pub passes_given : (r : Result (Unit {0}) Refusal) → passes (given r) ≡ is_ok r
+passes_given (Ok u) = refl
+passes_given (Err n) = refl
+
 module _ (s : Set) (u : Used) where
-  -- ---- forwards
-
-  pub set_refuses : (n : ℕ) → check_call s u.origin ≡ refused n → has_slots s u ≡ false
-  unfolding has_slots
-  set_refuses n e = rw e
-
-  pub set_passes : check_call s u.origin ≡ passed → has_slots s u ≡ ltb u.index 10
-  unfolding has_slots
-  set_passes e = rw e
-
-  -- ---- and backwards
-
   pub has_slots_lem : has_slots s u ≡ true → (check_call s u.origin ≡ passed) × (u.index < 10)
   unfolding has_slots
   has_slots_lem e =

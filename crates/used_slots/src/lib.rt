@@ -7,7 +7,6 @@ ghost use Rattle.set.specs.Sizes.{FACE_STORE};
 ghost use Rattle.set.specs.Outcome.{lent, lent_shared, Becomes};
 ghost use Rattle.stores.specs.Used.{has_slots, faces_written, written_if_there};
 
-use answer::Check;
 use set::checks::check_call;
 use slot_writes::{write_face_slot, write_sphere_slot};
 use stores::slots::{face_slot, source_slot, sphere_slot};
@@ -17,11 +16,7 @@ use stores::used::Used;
 fn has_slots(frame: &[f64], face_store: &[f64], sphere_store: &[f64], used: Used) -> bool
     ensures { result ≡ has_slots (lent_shared frame face_store sphere_store).entry used }
 {
-    let check = check_call(frame, face_store, sphere_store, used.origin);
-    if let Check::Refused(_) = check {
-        return false;
-    }
-    used.index < 10
+    check_call(frame, face_store, sphere_store, used.origin).is_ok() && used.index < 10
 }
 
 // Writes the face slots that a call uses and that are empty.

@@ -10,4 +10,4 @@ returns-then-is_filled c = simp (← c.is_filled.ensures, c.if-is_filled.true)
 pub returns : goal.returns
 unfolding face_written slot_written
 returns c =
-    simp (c.store_face.ensures, c.face_triangle.ensures, ← c.is_filled.ensures, c.if-is_filled.false)
+    simp (c.write_slot.ensures, c.face_run.ensures, c.face_triangle.ensures, ← c.is_filled.ensures, c.if-is_filled.false)

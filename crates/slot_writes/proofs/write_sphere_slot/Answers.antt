@@ -9,4 +9,4 @@ returns-then-is_filled c = simp (← c.is_filled.ensures, c.if-is_filled.true)
 pub returns : goal.returns
 unfolding slot_written
 returns c =
-    simp (c.store_sphere.ensures, ← c.is_filled.ensures, c.if-is_filled.false)
+    simp (c.write_slot.ensures, c.sphere_run.ensures, ← c.is_filled.ensures, c.if-is_filled.false)

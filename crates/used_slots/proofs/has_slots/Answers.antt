@@ -1,17 +1,17 @@
 -- `has_slots` meets its contract. Assumes nothing.
 use mathlib.Core.Path.{sym, ap, ◌∙◌}
-use Rattle.answer.specs.Answer.{given_check}
-use Rattle.stores.proofs.Within.{set_refuses, set_passes}
+use Rattle.stores.specs.Used.{passes, has_slots}
+use Rattle.stores.proofs.Within.{passes_given}
 use Rattle.used_slots.proofs.has_slots.Goals as goal
 
-pub returns-in-Refused : goal.returns-in-Refused
-returns-in-Refused c =
-    let used = c.args.used in
-    let refused = sym c.check_call-check.ensures ∙ ap given_check c.in-Refused.is in
-    sym (set_refuses _ used _ refused)
+pub returns-then-is_ok : goal.returns-then-is_ok
+unfolding has_slots
+returns-then-is_ok c =
+    let passed = ap passes (sym c.check_call.ensures) ∙ passes_given _ ∙ sym c.is_ok.ensures.value ∙ c.if-is_ok.true in
+    rw passed
 
-pub returns : goal.returns
-returns c =
-    let used = c.args.used in
-    let passed = sym c.check_call-check.ensures ∙ ap given_check c.in_default.is in
-    sym (set_passes _ used passed)
+pub returns-else-is_ok : goal.returns-else-is_ok
+unfolding has_slots
+returns-else-is_ok c =
+    let refused = ap passes (sym c.check_call.ensures) ∙ passes_given _ ∙ sym c.is_ok.ensures.value ∙ c.if-is_ok.false in
+    rw (refused, c.if-is_ok.false)
