@@ -2,19 +2,12 @@
 // Paper 4). Crate region has the call.
 #![tactic(auto)]
 
-ghost use Rattle.std.specs.Prelude.{min, ◌≡◌};
+ghost use Rattle.std.specs.Prelude.{◌≡◌};
 ghost use Rattle.region_copies.specs.Copies.{CopiedIn, written_out};
 
 use coordinates::base::Degrees;
 use coordinates::coords::Face;
 use coordinates::lonlat::LonLat;
-
-// The lesser of two numbers.
-fn lesser(a: usize, b: usize) -> usize
-    ensures { result ≡ min a b }
-{
-    if a < b { a } else { b }
-}
 
 // Positions to be overwritten.
 fn blank() -> [LonLat; 256] {
@@ -28,24 +21,17 @@ fn blank() -> [LonLat; 256] {
 pub fn copy_in(positions: &[LonLat]) -> [LonLat; 256]
     ensures { CopiedIn positions.now result }
 {
-    let n = lesser(positions.len(), 256);
+    let n = positions.len().min(256);
     let mut copied = blank();
-    let mut i: usize = 0;
-    while i < n {
-        copied[i] = positions[i];
-        i += 1;
-    }
+    copied[..n].copy_from_slice(&positions[..n]);
     copied
 }
 
 // Writes the first `count` points of an array to the points that are lent, as many as there are places for.
+#[tactic(auto, unfolding(crate::specs::Copies::written_out))]
 pub fn write_out(points: &mut [Face], from: [Face; 256], count: usize)
     ensures { points.new ≡ written_out points.old from count }
 {
-    let n = lesser(lesser(count, 256), points.len());
-    let mut i: usize = 0;
-    while i < n {
-        points[i] = from[i];
-        i += 1;
-    }
+    let n = count.min(256).min(points.len());
+    points[..n].copy_from_slice(&from[..n]);
 }
