@@ -1,11 +1,12 @@
 -- `open_with` meets its contract. Assumes nothing.
 use mathlib.Core.Path.{sym, ap, ◌∙◌}
 use Rattle.answer.specs.Answer.{given}
+use Rattle.answer.proofs.Given.{handed_on}
 use Rattle.arithmetic.specs.Arith.{ieee}
 use Rattle.set.proofs.Opening.{open_refused}
 use Rattle.open_calls.proofs.open_with.Goals as goal
 
-pub returns-in-Refused : goal.returns-in-Refused
-returns-in-Refused c =
-    let refused = open_refused ieee _ _ _ (sym c.check_with-check.ensures ∙ ap given c.in-Refused.is) in
-    record { answer = sym refused; left = rw refused }
+pub returns-in_err-check_with : goal.returns-in_err-check_with
+returns-in_err-check_with c =
+    let refused = open_refused ieee _ _ _ (sym c.check_with.ensures ∙ ap given c.in_err-check_with.was) in
+    record { answer = handed_on _ _ c.from_residual.ensures ∙ sym refused; left = rw refused }
