@@ -1,10 +1,11 @@
--- `step::step` meets its contract: refused by its checks, or the command carried out. The built-in table passes, so that its check may be
--- left out. Assumes nothing.
-use mathlib.Core.Path.{◌≡◌, refl, ap, ◌∙◌}
+-- `step` meets its contract: refused by its checks, or the command carried out. The built-in table passes, so that its check may be left
+-- out. Assumes nothing.
+use mathlib.Core.Path.{◌≡◌, refl, sym, ap, ◌∙◌}
 use mathlib.Core.List.{List}
 use Prim.Native.Nat.{ℕ}
 use Rattle.answer.specs.Answer.{given}
-use Rattle.answer.specs.Given.{Given, and_then}
+use Rattle.answer.specs.Given.{refused, passed}
+use Rattle.answer.proofs.Given.{handed_on}
 use Rattle.arithmetic.specs.Arith.{ieee}
 use Rattle.origin.specs.Origins.{ORIGINS}
 use Rattle.set.specs.Set.{Set, set_of, check_set}
@@ -15,24 +16,43 @@ use Rattle.panel.proofs.Carried.{block_long, steps_refused, steps_passed}
 use Rattle.panel_step.proofs.step.Goals as goal
 
 -- the step's check from the two checks that are made
-tested : (s : Set) (b : List ℕ) {g h k : Given (Unit {0})} → g ≡ and_then h k → h ≡ check_block b → k ≡ check_set s → check_step ieee ORIGINS s b ≡ g
+block_refuses : (s : Set) (b : List ℕ) (n : ℕ) → check_block b ≡ refused n → check_step ieee ORIGINS s b ≡ refused n
 unfolding check_step
-tested s b first block set = simp (first, block, set, built_in_check)
+block_refuses s b n block = rw block
 
-pub returns-in-Refused : goal.returns-in-Refused
-returns-in-Refused c =
+set_refuses : (s : Set) (b : List ℕ) (n : ℕ) → check_block b ≡ passed → check_set s ≡ refused n → check_step ieee ORIGINS s b ≡ refused n
+unfolding check_step
+set_refuses s b n block set = simp (block, built_in_check, set)
+
+both_pass : (s : Set) (b : List ℕ) → check_block b ≡ passed → check_set s ≡ passed → check_step ieee ORIGINS s b ≡ passed
+unfolding check_step
+both_pass s b block set = simp (block, built_in_check, set)
+
+pub returns-in_err-check_block : goal.returns-in_err-check_block
+returns-in_err-check_block c =
     let s = set_of c.args.frame.now c.args.face_store.now c.args.sphere_store.now in
-    let refuses = tested s c.args.block.now c.first_refusal-check.ensures c.check_block.ensures c.check_set.ensures in
-    steps_refused ORIGINS _ (refuses ∙ ap given c.in-Refused.is) refl refl
+    let block = sym c.check_block.ensures ∙ ap given c.in_err-check_block.was in
+    let refuses = block_refuses s c.args.block.now _ block in
+    steps_refused ORIGINS _ (refuses ∙ sym (handed_on _ _ c.from_residual.ensures)) refl refl
+
+pub returns-in_err-check_set : goal.returns-in_err-check_set
+returns-in_err-check_set c =
+    let s = set_of c.args.frame.now c.args.face_store.now c.args.sphere_store.now in
+    let block = sym c.check_block.ensures ∙ ap given c.in_ok-check_block.was in
+    let set = sym c.check_set.ensures ∙ ap given c.in_err-check_set.was in
+    let refuses = set_refuses s c.args.block.now _ block set in
+    steps_refused ORIGINS _ (refuses ∙ sym (handed_on _ _ c.from_residual-in_err-check_set.ensures)) refl refl
 
 pub carry_out-requires : goal.carry_out-requires
 carry_out-requires c =
     let s = set_of c.args.frame.now c.args.face_store.now c.args.sphere_store.now in
-    let passes = tested s c.args.block.now c.first_refusal-check.ensures c.check_block.ensures c.check_set.ensures in
-    block_long ieee ORIGINS s c.args.block.now (passes ∙ ap given c.in_default.is)
+    let block = sym c.check_block.ensures ∙ ap given c.in_ok-check_block.was in
+    let set = sym c.check_set.ensures ∙ ap given c.in_ok-check_set.was in
+    block_long ieee ORIGINS s c.args.block.now (both_pass s _ block set)
 
 pub returns : goal.returns
 returns c =
     let s = set_of c.args.frame.now c.args.face_store.now c.args.sphere_store.now in
-    let passes = tested s c.args.block.now c.first_refusal-check.ensures c.check_block.ensures c.check_set.ensures in
-    steps_passed ORIGINS (passes ∙ ap given c.in_default.is) c.carry_out.ensures
+    let block = sym c.check_block.ensures ∙ ap given c.in_ok-check_block.was in
+    let set = sym c.check_set.ensures ∙ ap given c.in_ok-check_set.was in
+    steps_passed ORIGINS (both_pass s _ block set) c.carry_out.ensures
