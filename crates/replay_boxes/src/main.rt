@@ -7,31 +7,25 @@ mod lent;
 
 use caption_box::CaptionBox;
 use coordinates::coords::Face;
-use coordinates::vec2::Vec2;
-use replay::outcome::{Outcome, refused, three};
-use replay::record::{Next, argument};
-use replay::{record, report};
+use replay::function::Function;
+use replay::outcome::{Outcome, done, three, told};
+use replay::record::Record;
 use std::io;
-use std::io::{Read, Write};
 
 // The box in a record's first five arguments: four sides, and 1.0 where it is empty.
-fn stored_box(words: &[u8; 96]) -> CaptionBox {
-    let empty = argument(words, 4) == 1.0;
+fn stored_box(record: &Record) -> CaptionBox {
     CaptionBox {
-        least_x: argument(words, 0),
-        greatest_x: argument(words, 1),
-        least_y: argument(words, 2),
-        greatest_y: argument(words, 3),
-        empty,
+        least_x: record.argument(0),
+        greatest_x: record.argument(1),
+        least_y: record.argument(2),
+        greatest_y: record.argument(3),
+        empty: record.argument(4) == 1.0,
     }
 }
 
 // The point in the two arguments behind the box.
-fn stored_point(words: &[u8; 96]) -> Face {
-    Face(Vec2 {
-        x: argument(words, 5),
-        y: argument(words, 6),
-    })
+fn stored_point(record: &Record) -> Face {
+    replay_arguments::face(record, 5)
 }
 
 fn flag(empty: bool) -> f64 {
@@ -58,71 +52,40 @@ fn new_half(which: f64) -> Outcome {
 }
 
 // What `take_in` comes to: its check (2), and the box afterwards in two halves.
-fn taken(number: u8, words: &[u8; 96]) -> Outcome {
-    let (given, caption) = lent::take_lent(stored_box(words), stored_point(words));
-    match number {
-        2 => refused(answer::status(given)),
+fn taken(record: &Record) -> Outcome {
+    let (given, caption) = lent::take_lent(stored_box(record), stored_point(record));
+    match record.head.number {
+        2 => told(given, done),
         3 => x_sides(caption),
         _ => y_sides(caption),
     }
 }
 
 // What `grow` leaves in the box.
-fn grown(words: &[u8; 96]) -> CaptionBox {
-    let mut caption = stored_box(words);
-    caption.grow(stored_point(words));
+fn grown(record: &Record) -> CaptionBox {
+    let mut caption = stored_box(record);
+    caption.grow(stored_point(record));
     caption
 }
 
-// The outcome of the function with this number.
-fn outcome(number: u8, words: &[u8; 96]) -> Outcome {
-    match number {
-        1 => new_half(argument(words, 0)),
-        2..=4 => taken(number, words),
-        5 => x_sides(grown(words)),
-        _ => y_sides(grown(words)),
+// The outcome of a record's function.
+fn outcome(record: &Record) -> Outcome {
+    match record.head.number {
+        1 => new_half(record.argument(0)),
+        2..=4 => taken(record),
+        5 => x_sides(grown(record)),
+        _ => y_sides(grown(record)),
     }
 }
 
-// Reads one record and replays it. Answers whether there was one.
-fn replay_next<R: Read, W: Write>(
-    from: &mut R,
-    to: &mut W,
-    names: &[u8],
-    takes: &[u8],
-    compared: &mut [u64; 32],
-    differ: &mut [u64; 32],
-) -> io::Result<bool> {
-    let mut words = [0u8; 96];
-    let next = record::read(from, to, takes, &mut words)?;
-    let Next::Record(head) = next else {
-        return Ok(false);
-    };
-    let given = outcome(head.number, &words);
-    replay_tally::compare(to, names, head, &words, given, compared, differ)?;
-    Ok(true)
-}
-
-// Nothing says that the input ends, so the loop counts its records down from more than any list has.
-fn run<R: Read, W: Write>(from: &mut R, to: &mut W, names: &[u8], takes: &[u8]) -> io::Result<()> {
-    let mut compared = [0u64; 32];
-    let mut differ = [0u64; 32];
-    let mut left: u32 = 0xffff_ffff;
-    while left > 0 && replay_next(from, to, names, takes, &mut compared, &mut differ)? {
-        left -= 1;
-    }
-    if left == 0 {
-        report::too_long(to)?;
-    }
-    report::summaries(to, names, 6, &compared, &differ)
-}
-
-// The functions' names and how many arguments each takes, by their numbers, from 1.
 fn main(rt: HostRuntime) -> io::Result<()> {
-    run(
-        &mut rt.stdin(),
-        &mut rt.stdout(),
-        b" new_box take take_x take_y grow_x grow_y",
-        b"0177777",
-    )
+    let functions = [
+        Function::new("new_box", 1),
+        Function::new("take", 7),
+        Function::new("take_x", 7),
+        Function::new("take_y", 7),
+        Function::new("grow_x", 7),
+        Function::new("grow_y", 7),
+    ];
+    replay_tally::run(&mut rt.stdin(), &mut rt.stdout(), &functions, outcome)
 }
