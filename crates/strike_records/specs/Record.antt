@@ -2,13 +2,12 @@
 use Rattle.std.specs.Prelude.{ℕ, ◌+◌, ◌*◌, ◌-◌, Bool, true, false, not, ◌&&◌, List, ltb, eqb, length, get_or, Float}
 use Rattle.std.specs.Float.{binary64}
 use Rattle.std.specs.Float.Ieee.{of_bits}
-use Rattle.answer.specs.Given.{Given, answered, refused, refuse_if}
-use Rattle.answer.specs.Answer.{number_of}
+use Rattle.answer.specs.Given.{Given, answered, refuse_if}
 use Rattle.arithmetic.specs.Arith.{Arith}
 use Rattle.coordinates.specs.CoordinateTransforms.{degrees, face}
 use Rattle.coordinates.specs.declared.coords.Face.{Face}
 use Rattle.coordinates.specs.declared.lonlat.LonLat.{LonLat}
-use Rattle.strike_records.specs.declared.record.Request as declared
+use Rattle.strike_records.specs.declared.record.Request.{Request}
 use Rattle.strike_records.specs.declared.record.Request.TheVariants as request
 
 -- "EAD", and the 16-bit version 1, the high byte first
@@ -34,16 +33,6 @@ unfoldable pub 1e9 : Float
 unfolding of_bits
 1e9 = of_bits binary64 0x41cd_cd65_0000_0000
 
--- place at a position, or unplace of a face point on an origin
-pub data Request : Type 0 where
-  place : LonLat → Request
-  unplace : Face → ℕ → Request
-
-abbrev pub given_request : declared.Request → Given Request
-given_request (request.Place p) = answered (place p)
-given_request (request.Unplace f o) = answered (unplace f o)
-given_request (request.Refused n) = refused (number_of n)
-
 module _ (A : Arith) where
   open A use {◌⊘◌, whole}
 
@@ -65,6 +54,6 @@ module _ (A : Arith) where
   unfoldable pub request_in : List ℕ → Given Request
   request_in r =
       elim (eqb (get_or r 0 0) 1) [
-        | true ↦ refuse_if (not (eqb (get_or r 1 0) 0)) 12 (answered (place (lon_lat_in r 2)))
-        | false ↦ refuse_if (not (eqb (get_or r 0 0) 2)) 12 (answered (unplace (face_in r 2) (get_or r 1 0)))
+        | true ↦ refuse_if (not (eqb (get_or r 1 0) 0)) 12 (answered (request.Place (lon_lat_in r 2)))
+        | false ↦ refuse_if (not (eqb (get_or r 0 0) 2)) 12 (answered (request.Unplace (face_in r 2) (get_or r 1 0)))
       ]

@@ -1,5 +1,6 @@
 // The lines of answers and refusals. Each function writes from a place on, and returns the place
-// behind what it wrote.
+// behind what it wrote. The digits are written by hand: the memory is fixed, and std's Display says
+// what it writes of a String alone, which needs a heap.
 ghost use Rattle.std.specs.Prelude.{◌≡◌, [], ◌∷◌, ◌+◌, ◌≤◌, ◌<◌, length};
 ghost use Rattle.strike_records.specs.Line.{SPACE, LINE as the_line, digit as Line·digit, hex, decimal, bits_of, fields, place_line, lon_lat_line, refusal_line};
 ghost use Rattle.strike_records.specs.Writes.{Writes, lent_bytes};
@@ -16,7 +17,7 @@ fn digit(d: u8) -> u8
     requires { d < 16 }
     ensures { result ≡ Line·digit d }
 {
-    if d < 10 { 48 + d } else { 87 + d }
+    if d < 10 { b'0' + d } else { b'a' - 10 + d }
 }
 
 // The sixteen digits of a number, the last one first.
@@ -25,9 +26,7 @@ fn write_hex(run: &mut [u8], bits: u64)
     ensures { run.new ≡ hex 16 bits }
 {
     let mut rest = bits;
-    let mut i: usize = 16;
-    while i > 0 {
-        i -= 1;
+    for i in (0..16).rev() {
         run[i] = digit((rest % 16) as u8);
         rest /= 16;
     }
@@ -50,17 +49,17 @@ fn write_decimal(out: &mut [u8], at: usize, n: u8) -> usize
 {
     out[at] = b' ';
     if n < 10 {
-        out[at + 1] = 48 + n;
+        out[at + 1] = b'0' + n;
         return at + 2;
     }
     if n < 100 {
-        out[at + 1] = 48 + n / 10;
-        out[at + 2] = 48 + n % 10;
+        out[at + 1] = b'0' + n / 10;
+        out[at + 2] = b'0' + n % 10;
         return at + 3;
     }
-    out[at + 1] = 48 + n / 100;
-    out[at + 2] = 48 + n / 10 % 10;
-    out[at + 3] = 48 + n % 10;
+    out[at + 1] = b'0' + n / 100;
+    out[at + 2] = b'0' + n / 10 % 10;
+    out[at + 3] = b'0' + n % 10;
     at + 4
 }
 

@@ -1,7 +1,8 @@
 // The header and a record of ten bytes.
-ghost use Rattle.std.specs.Prelude.{◌≡◌, ◌+◌, ◌≤◌, ◌<◌, length};
+ghost use Rattle.std.specs.Prelude.{◌≡◌, ◌+◌, ◌≤◌, length};
+ghost use Rattle.answer.specs.Answer.{given};
 ghost use Rattle.arithmetic.specs.Arith.{ieee};
-ghost use Rattle.strike_records.specs.Record.{headed, four, four_at, signed, lon_lat_in, face_in, request_in, given_request};
+ghost use Rattle.strike_records.specs.Record.{headed, four_at, signed, lon_lat_in, face_in, request_in};
 
 use answer::Refusal;
 use coordinates::base::Degrees;
@@ -14,7 +15,6 @@ use coordinates::vec2::Vec2;
 pub enum Request {
     Place(LonLat),
     Unplace(Face, u8),
-    Refused(Refusal),
 }
 
 // The mark EAD and the version 1.
@@ -22,45 +22,17 @@ pub fn is_header(input: &[u8]) -> bool
     requires { 5 ≤ length input.now }
     ensures { result ≡ headed input.now }
 {
-    if input[0] != b'E' {
-        return false;
-    }
-    if input[1] != b'A' {
-        return false;
-    }
-    if input[2] != b'D' {
-        return false;
-    }
-    if input[3] != 0 {
-        return false;
-    }
-    input[4] == 1
+    input.starts_with(b"EAD\0\x01")
 }
 
-fn wide(x: u8) -> u32
-    ensures value { result ≡ x }
-    ensures upper_bound { result < 256 }
-{
-    x as u32
-}
-
-fn of_four(a: u8, b: u8, c: u8, d: u8) -> u32
-    ensures { result ≡ four a b c d }
-{
-    wide(a) * 16777216 + wide(b) * 65536 + wide(c) * 256 + wide(d)
-}
-
-// Bytes as a signed number, the highest first.
+// Four bytes from a place on as a signed number, the highest first.
 fn signed(bytes: &[u8], at: usize) -> f64
     requires { at + 4 ≤ length bytes.now }
     ensures { result ≡ signed ieee (four_at bytes.now at) }
 {
-    let n = of_four(bytes[at], bytes[at + 1], bytes[at + 2], bytes[at + 3]);
-    if n < 0x8000_0000 {
-        n as f64
-    } else {
-        -((0xffff_ffff - n + 1) as f64)
-    }
+    let mut four = [0; 4];
+    four.copy_from_slice(&bytes[at..at + 4]);
+    f64::from(i32::from_be_bytes(four))
 }
 
 // The two numbers from a place on as a longitude and a latitude.
@@ -85,21 +57,14 @@ pub fn face(bytes: &[u8], at: usize) -> Face
     })
 }
 
-// What a record of ten bytes asks for.
-pub fn decode(bytes: &[u8]) -> Request
+// What a record of ten bytes asks for: kind 1 is place and needs the origin byte 0, kind 2 is unplace.
+pub fn decode(bytes: &[u8]) -> Result<Request, Refusal>
     requires { length bytes.now ≡ 10 }
-    ensures { given_request result ≡ request_in ieee bytes.now }
+    ensures { given result ≡ request_in ieee bytes.now }
 {
-    let kind = bytes[0];
-    let origin = bytes[1];
-    if kind == 1 {
-        if origin != 0 {
-            return Request::Refused(Refusal::RecordKind);
-        }
-        return Request::Place(lon_lat(bytes, 2));
+    match (bytes[0], bytes[1]) {
+        (1, 0) => Ok(Request::Place(lon_lat(bytes, 2))),
+        (2, origin) => Ok(Request::Unplace(face(bytes, 2), origin)),
+        _ => Err(Refusal::RecordKind),
     }
-    if kind == 2 {
-        return Request::Unplace(face(bytes, 2), origin);
-    }
-    Request::Refused(Refusal::RecordKind)
 }

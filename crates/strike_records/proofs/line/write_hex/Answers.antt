@@ -1,5 +1,5 @@
 -- `line::write_hex` meets its contract. The loop's invariant: the first i digits of what is left of the number, with the digits that
--- stand behind them, are all sixteen. The measure is i. Assumes nothing.
+-- stand behind them, are all sixteen. Assumes nothing.
 use mathlib.Core.Path.{◌≡◌, refl}
 use mathlib.Core.List.{List, [], ◌∷◌, ◌++◌, append_assoc}
 use Prim.Native.Nat.{ℕ, zero, suc, ◌-◌, ◌/◌, ◌%◌, ◌<◌}
@@ -23,12 +23,12 @@ digit_more i j n v run all s k p e =
 pub loop-i-preserved : goal.loop-i-preserved
 loop-i-preserved c =
     let l = c.loop-i in
-    let digits = digit_more l.i (l.i - 1) l.rest c.digit.result l.run _ (omega arith) (omega arith) c.digit.ensures l.invariant.2 in
-    (omega arith, simp length-set l.invariant.1, digits)
+    let digits = digit_more l.i (l.i - 1) l.rest c.digit.result l.run _ (omega arith) (omega arith) c.digit.ensures l.invariant.1 in
+    (simp length-set l.invariant.0, digits)
 
 pub returns : goal.returns
 unfolding hex
 returns c =
     let l = c.loop-i in
     let e : l.i ≡ 0 = omega arith in
-    rw e at l.invariant.2
+    rw e at l.invariant.1
