@@ -1,6 +1,6 @@
 -- Paper 13: the page as text. Definitions only.
-use Rattle.std.specs.Prelude.{ℕ, ◌-◌, length, get_or, take, replicate}
-use mathlib.Core.List.{List, [], ◌∷◌, ◌++◌, flatten}
+use Rattle.std.specs.Prelude.{ℕ, get_or, take, replicate}
+use mathlib.Core.List.{List, [], ◌∷◌, flatten}
 use Rattle.decimal.specs.Decimal.{decimal}
 use Rattle.window.specs.EveryList.{sum}
 pub use Rattle.sheet_columns.specs.Line.{SPACE, NEWLINE, spaces, blank}

@@ -1,4 +1,5 @@
-// Paper 13: a line of the as-run sheet, by its place on the page.
+// Paper 13: a line of the as-run sheet, by its place on the page. A line is lent as a slice and not as an array: where a part
+// of the page is lent as an array, a proof knows no byte of it afterwards.
 #![tactic(auto)]
 
 ghost use Rattle.std.specs.Prelude.{◌≡◌, [], ◌<◌, length, get_or, take};
