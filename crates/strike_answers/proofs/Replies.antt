@@ -12,7 +12,9 @@ use Rattle.arithmetic.specs.Arith.{Arith}
 use Rattle.set.specs.Set.{Set}
 use Rattle.dodecahedron.specs.Calls.{place_on, unplace_on}
 use Rattle.strike_records.specs.Line.{LINE, place_line, lon_lat_line}
-use Rattle.strike_records.specs.Record.{Request, place, unplace, request_in}
+use Rattle.strike_records.specs.Record.{request_in}
+use Rattle.strike_records.specs.declared.record.Request.{Request}
+use Rattle.strike_records.specs.declared.record.Request.TheVariants.{Place, Unplace}
 use Rattle.strike_records.specs.Writes.{Bytes, change}
 use Rattle.strike_records.proofs.Written.{writes_as, writes_more}
 use Rattle.strike_records.proofs.Fits.{place_fits, lon_lat_fits, refusal_fits}
@@ -27,8 +29,8 @@ line_fits f h (refused n) = refusal_fits n
 module _ (A : Arith) (table : List Float) (s : Set) where
   reply_to_fits : (r : Given Request) → length (reply_to A table s r).lines ≤ LINE
   reply_to_fits (refused n) = refusal_fits n
-  reply_to_fits (answered (place p)) = line_fits place_line place_fits (place_on A table s p).answer
-  reply_to_fits (answered (unplace f o)) = line_fits lon_lat_line lon_lat_fits (unplace_on A table s f o).answer
+  reply_to_fits (answered (Place p)) = line_fits place_line place_fits (place_on A table s p).answer
+  reply_to_fits (answered (Unplace f o)) = line_fits lon_lat_line lon_lat_fits (unplace_on A table s f o).answer
 
   reply_fits : (r : List ℕ) → length (reply A table s r).lines ≤ LINE
   unfolding reply

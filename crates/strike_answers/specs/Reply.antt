@@ -6,7 +6,9 @@ use Rattle.set.specs.Set.{Set}
 use Rattle.set.specs.Outcome.{Outcome}
 use Rattle.dodecahedron.specs.Calls.{place_on, unplace_on}
 use Rattle.strike_records.specs.Line.{place_line, lon_lat_line, refusal_line}
-use Rattle.strike_records.specs.Record.{Request, place, unplace, request_in}
+use Rattle.strike_records.specs.Record.{request_in}
+use Rattle.strike_records.specs.declared.record.Request.{Request}
+use Rattle.strike_records.specs.declared.record.Request.TheVariants.{Place, Unplace}
 
 -- the line of an answer, or of the number that it was refused with
 abbrev pub line_of : {X : Type 0} → (X → List ℕ) → Given X → List ℕ
@@ -30,8 +32,8 @@ module _ (A : Arith) (table : List Float) where
   -- a record on a set, by what it asks for
   abbrev pub reply_to : Set → Given Request → Reply
   reply_to s (refused n) = record { lines = refusal_line n; set = s }
-  reply_to s (answered (place p)) = reply_of place_line (place_on A table s p)
-  reply_to s (answered (unplace f o)) = reply_of lon_lat_line (unplace_on A table s f o)
+  reply_to s (answered (Place p)) = reply_of place_line (place_on A table s p)
+  reply_to s (answered (Unplace f o)) = reply_of lon_lat_line (unplace_on A table s f o)
 
   -- a record of ten bytes
   unfoldable pub reply : Set → List ℕ → Reply

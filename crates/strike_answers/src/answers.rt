@@ -6,17 +6,14 @@ ghost use Rattle.arithmetic.specs.Arith.{ieee};
 ghost use Rattle.origin.specs.Origins.{ORIGINS};
 ghost use Rattle.set.specs.Outcome.{lent};
 ghost use Rattle.strike_records.specs.Line.{LINE};
-ghost use Rattle.strike_records.specs.Record.{place, unplace};
 ghost use Rattle.strike_records.specs.Writes.{lent_bytes};
 ghost use Rattle.strike_answers.specs.Reply.{reply_to, reply, replies};
 ghost use Rattle.strike_answers.specs.Results.{Replies};
 
-use coordinates::conversions::LonLatAnswer;
 use coordinates::coords::Face;
 use coordinates::lonlat::LonLat;
-use dodecahedron::place::PlaceAnswer;
 use strike_records::line::{write_lon_lat, write_place, write_refusal};
-use strike_records::record::Request;
+use strike_records::record::{Request, decode};
 
 // A record that asks for place.
 fn answer_place(
@@ -29,11 +26,11 @@ fn answer_place(
 ) -> usize
     requires { at + LINE ≤ length out.old }
     ensures { Replies (lent frame face_store sphere_store) (lent_bytes out) at result
-        (λ s. reply_to ieee ORIGINS s (answered (place lonlat))) }
+        (λ s. reply_to ieee ORIGINS s (answered (Request.Place lonlat))) }
 {
     match calls::place(frame, face_store, sphere_store, lonlat) {
-        PlaceAnswer::Answered(p) => write_place(out, at, p),
-        PlaceAnswer::Refused(n) => write_refusal(out, at, answer::number(n)),
+        Ok(place) => write_place(out, at, place),
+        Err(refusal) => write_refusal(out, at, refusal.number()),
     }
 }
 
@@ -49,11 +46,11 @@ fn answer_unplace(
 ) -> usize
     requires { at + LINE ≤ length out.old }
     ensures { Replies (lent frame face_store sphere_store) (lent_bytes out) at result
-        (λ s. reply_to ieee ORIGINS s (answered (unplace point origin))) }
+        (λ s. reply_to ieee ORIGINS s (answered (Request.Unplace point origin))) }
 {
     match calls::unplace(frame, face_store, sphere_store, point, origin) {
-        LonLatAnswer::Answered(l) => write_lon_lat(out, at, l),
-        LonLatAnswer::Refused(n) => write_refusal(out, at, answer::number(n)),
+        Ok(lonlat) => write_lon_lat(out, at, lonlat),
+        Err(refusal) => write_refusal(out, at, refusal.number()),
     }
 }
 
@@ -69,12 +66,14 @@ fn answer_record(
     requires { (length bytes.now ≡ 10) × (at + LINE ≤ length out.old) }
     ensures { Replies (lent frame face_store sphere_store) (lent_bytes out) at result (λ s. reply ieee ORIGINS s bytes.now) }
 {
-    match strike_records::record::decode(bytes) {
-        Request::Place(p) => answer_place(frame, face_store, sphere_store, p, out, at),
-        Request::Unplace(p, origin) => {
-            answer_unplace(frame, face_store, sphere_store, p, origin, out, at)
+    match decode(bytes) {
+        Ok(Request::Place(lonlat)) => {
+            answer_place(frame, face_store, sphere_store, lonlat, out, at)
         }
-        Request::Refused(n) => write_refusal(out, at, answer::number(n)),
+        Ok(Request::Unplace(point, origin)) => {
+            answer_unplace(frame, face_store, sphere_store, point, origin, out, at)
+        }
+        Err(refusal) => write_refusal(out, at, refusal.number()),
     }
 }
 
@@ -91,9 +90,8 @@ pub fn answer_records(
     ensures { Replies (lent frame face_store sphere_store) (lent_bytes out) 0 result
         (λ s. replies ieee ORIGINS s input.now count) }
 {
-    let mut i: usize = 0;
     let mut written: usize = 0;
-    while i < count {
+    for i in 0..count {
         let at = i * 10;
         written = answer_record(
             frame,
@@ -103,7 +101,6 @@ pub fn answer_records(
             out,
             written,
         );
-        i += 1;
     }
     written
 }

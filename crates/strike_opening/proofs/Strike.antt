@@ -14,7 +14,9 @@ use Rattle.histories.specs.Lists.{Standing, standing, Call, places, unplaces, us
 use Rattle.histories.proofs.BuiltIn.{table_left}
 use Rattle.histories.proofs.Left.{alone_left}
 use Rattle.histories.specs.EveryList.{opened, left}
-use Rattle.strike_records.specs.Record.{Request, place, unplace, request_in}
+use Rattle.strike_records.specs.Record.{request_in}
+use Rattle.strike_records.specs.declared.record.Request.{Request}
+use Rattle.strike_records.specs.declared.record.Request.TheVariants.{Place, Unplace}
 use Rattle.strike_answers.specs.Reply.{line_of, reply_to, reply}
 use Rattle.strike_session.specs.Session.{session, program}
 use Rattle.opening.specs.Opening.{Without8}
@@ -36,8 +38,8 @@ module _ (b : Set) where
 
   one : (s : Set) (r : Given Request) → LeftBy s → LeftBy (reply_to ieee ORIGINS s r).set
   one s (refused n) h = h
-  one s (answered (place p)) h = next s (places p) (used_of (place_given ieee ORIGINS s p)) refl h
-  one s (answered (unplace f o)) h = next s (unplaces f o) (used_of (unplace_given ieee ORIGINS s f o)) refl h
+  one s (answered (Place p)) h = next s (places p) (used_of (place_given ieee ORIGINS s p)) refl h
+  one s (answered (Unplace f o)) h = next s (unplaces f o) (used_of (unplace_given ieee ORIGINS s f o)) refl h
 
   records_left : (n : ℕ) (s : Set) (bytes : List ℕ) → LeftBy s → LeftBy (set_after n s bytes)
   unfolding set_after reply

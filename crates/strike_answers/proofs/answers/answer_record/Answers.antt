@@ -1,37 +1,38 @@
 -- `answers::answer_record` meets its contract, by what the record asks for. Assumes nothing.
 use mathlib.Core.Path.{sym, ap, ◌∙◌}
+use Rattle.answer.specs.Answer.{given}
+use Rattle.answer.specs.Given.{answered}
 use Rattle.arithmetic.specs.Arith.{ieee}
 use Rattle.origin.specs.Origins.{ORIGINS}
 use Rattle.set.specs.Set.{set_of}
 use Rattle.strike_records.specs.Line.{refusal_line}
-use Rattle.strike_records.specs.Record.{given_request}
 use Rattle.strike_answers.specs.Reply.{Reply, reply_to, reply}
 use Rattle.strike_records.proofs.Written.{writes_as}
 use Rattle.strike_answers.proofs.Replies.{replies_as}
 use Rattle.strike_answers.proofs.answers.answer_record.Goals as goal
 
-pub returns-in-Place : goal.returns-in-Place
+pub returns-in-Ok-Place : goal.returns-in-Ok-Place
 unfolding reply
-returns-in-Place c =
+returns-in-Ok-Place c =
     let a = c.args in
     let s = set_of a.frame.now a.face_store.now a.sphere_store.now in
-    let asked = sym c.decode.ensures ∙ ap given_request c.in-Place.is in
+    let asked = sym c.decode.ensures ∙ ap given c.in-Ok-Place.is ∙ ap answered c.in-Ok-Place.field-0-is in
     replies_as _ (ap (reply_to ieee ORIGINS s) (sym asked)) c.answer_place.ensures
 
-pub returns-in-Unplace : goal.returns-in-Unplace
+pub returns-in-Ok-Unplace : goal.returns-in-Ok-Unplace
 unfolding reply
-returns-in-Unplace c =
+returns-in-Ok-Unplace c =
     let a = c.args in
     let s = set_of a.frame.now a.face_store.now a.sphere_store.now in
-    let asked = sym c.decode.ensures ∙ ap given_request c.in-Unplace.is in
+    let asked = sym c.decode.ensures ∙ ap given c.in-Ok-Unplace.is ∙ ap answered c.in-Ok-Unplace.field-0-is in
     replies_as _ (ap (reply_to ieee ORIGINS s) (sym asked)) c.answer_unplace.ensures
 
-pub returns-in-Refused : goal.returns-in-Refused
+pub returns-in-Err : goal.returns-in-Err
 unfolding reply
-returns-in-Refused c =
+returns-in-Err c =
     let a = c.args in
     let s = set_of a.frame.now a.face_store.now a.sphere_store.now in
-    let asked = sym c.decode.ensures ∙ ap given_request c.in-Refused.is in
+    let asked = sym c.decode.ensures ∙ ap given c.in-Err.is in
     let same = ap (reply_to ieee ORIGINS s) (sym asked) in
     let number = ap refusal_line c.number.ensures in
     record {

@@ -1,7 +1,5 @@
--- `answers::answer_records` meets its contract. The loop's invariant: so far it is the contract with i for the count. The measure is the
--- records that are left. Assumes nothing.
+-- `answers::answer_records` meets its contract. The loop's invariant: so far it is the contract with i for the count. Assumes nothing.
 use mathlib.Core.Path.{refl, ◌∙◌}
-use Prim.Native.Nat.{zero-le}
 use native.Mathlib.Omega.{arith}
 use lib.ListN.{length-take, length-drop}
 use Rattle.arithmetic.specs.Arith.{ieee}
@@ -14,14 +12,14 @@ use Rattle.strike_answers.proofs.answers.answer_records.Goals as goal
 
 pub loop-i-init : goal.loop-i-init
 unfolding replies
-loop-i-init c = (zero-le, record { lines = writes_none _; left = refl }, refl, refl, refl)
+loop-i-init c = (record { lines = writes_none _; left = refl }, refl, refl, refl)
 
 pub answer_record-written-requires : goal.answer_record-written-requires
 answer_record-written-requires c =
     let a = c.args in
     let l = c.loop-i in
     let lines = lines_fit ieee ORIGINS (set_of a.frame.now a.face_store.now a.sphere_store.now) a.input.now l.i in
-    (simp (length-take, length-drop) (omega arith), omega (arith, lines, l.invariant.1.lines.end_is, l.invariant.2))
+    (simp (length-take, length-drop) (omega arith), omega (arith, lines, l.invariant.0.lines.end_is, l.invariant.1))
 
 pub loop-i-preserved : goal.loop-i-preserved
 loop-i-preserved c =
@@ -31,9 +29,8 @@ loop-i-preserved c =
     let s = set_of a.frame.now a.face_store.now a.sphere_store.now in
     let fit = lines_fit ieee ORIGINS s a.input.now l.i in
     let part = part_is a.input.now l.i in (
-      omega arith,
-      replies_more ieee ORIGINS s a.input.now l.i part (omega (arith, fit)) l.invariant.1 call.ensures,
-      call.auto.out ∙ l.invariant.2,
-      call.auto.face_store ∙ l.invariant.3,
-      call.auto.sphere_store ∙ l.invariant.4,
+      replies_more ieee ORIGINS s a.input.now l.i part (omega (arith, fit)) l.invariant.0 call.ensures,
+      call.auto.out ∙ l.invariant.1,
+      call.auto.face_store ∙ l.invariant.2,
+      call.auto.sphere_store ∙ l.invariant.3,
     )

