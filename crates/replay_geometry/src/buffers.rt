@@ -1,13 +1,9 @@
-// Open on buffers of any length, and the rows of a buffer that it has written.
-ghost use Rattle.std.specs.Prelude.{◌+◌, ◌≤◌};
-ghost use Rattle.set.specs.Sizes.{FRAME as the_frame, FACE_STORE as the_face_store, SPHERE_STORE as the_sphere_store};
-
-use crate::tables::NO_SUCH_PLACE;
+// Open on buffers of any length, and the rows of a buffer that it has written. None where a buffer has no such place.
+use answer::Refusal;
 use open_calls::open;
-use replay::outcome::{Outcome, refused, three};
-use replay::record::word;
+use replay::outcome::{Outcome, answered, done, three, told};
+use replay::record::Record;
 use replay_numbers::unlike;
-use set::open::OpenAnswer;
 use set::sizes::{FACE_STORE, FRAME, SPHERE_STORE};
 
 // Room for a buffer and one number more, so that one too many can be lent, and what lies behind is looked at.
@@ -21,87 +17,39 @@ const SPHERE_ROOM: usize = SPHERE_STORE + 1;
 pub const FOREIGN: f64 = 7.5;
 
 // The three numbers of a row.
-pub fn row(buffer: &[f64], words: &[u8; 96]) -> Outcome {
-    let row = word(words, 0);
-    if row >= (buffer.len() / 3) as u64 {
-        return refused(NO_SUCH_PLACE);
-    }
-    let at = 3 * (row as usize);
-    three(buffer[at], buffer[at + 1], buffer[at + 2])
+pub fn row(buffer: &[f64], record: &Record) -> Option<Outcome> {
+    let [x, y, z] = *buffer.as_chunks::<3>().0.get(record.word(0) as usize)?;
+    Some(three(x, y, z))
 }
 
-// What open answered, 0 or the refusal's number, and how many numbers it changed in each buffer.
-#[derive(Clone, Copy)]
-struct Effect {
-    status: u8,
-    frame: usize,
-    face: usize,
-    sphere: usize,
-}
-
-// What differs from foreign buffers.
-fn effect_on(
-    status: u8,
-    frame: &[f64; FRAME_ROOM],
-    face: &[f64; FACE_ROOM],
-    sphere: &[f64; SPHERE_ROOM],
-) -> Effect {
+// What open gives on the first numbers of three foreign buffers, as many of each as a record says, and how many numbers it
+// changed in each. What lies behind is looked at too.
+fn opened(record: &Record) -> Option<(Result<(), Refusal>, [usize; 3])> {
     let before = [FOREIGN; SPHERE_ROOM];
-    Effect {
-        status: status,
-        frame: unlike(frame, &before, 0),
-        face: unlike(face, &before, 0),
-        sphere: unlike(sphere, &before, 0),
-    }
-}
-
-// Open on the first numbers of three foreign buffers, a, b and c many. What lies behind is looked at too.
-fn opening(a: usize, b: usize, c: usize) -> Effect
-    requires { (a ≤ the_frame + 1) × (b ≤ the_face_store + 1) × (c ≤ the_sphere_store + 1) }
-{
     let mut frame = [FOREIGN; FRAME_ROOM];
     let mut face = [FOREIGN; FACE_ROOM];
     let mut sphere = [FOREIGN; SPHERE_ROOM];
-    let status = match open(&mut frame[..a], &mut face[..b], &mut sphere[..c]) {
-        OpenAnswer::Opened => 0,
-        OpenAnswer::Refused(r) => answer::number(r),
-    };
-    effect_on(status, &frame, &face, &sphere)
+    let given = open(
+        frame.get_mut(..record.word(0) as usize)?,
+        face.get_mut(..record.word(1) as usize)?,
+        sphere.get_mut(..record.word(2) as usize)?,
+    );
+    let changed = [
+        unlike(&frame, &before, 0),
+        unlike(&face, &before, 0),
+        unlike(&sphere, &before, 0),
+    ];
+    Some((given, changed))
 }
 
-// Open at the three lengths of a record.
-fn opened(words: &[u8; 96]) -> Effect {
-    let a = word(words, 0);
-    let b = word(words, 1);
-    let c = word(words, 2);
-    if a > FRAME_ROOM as u64 || b > FACE_ROOM as u64 || c > SPHERE_ROOM as u64 {
-        return Effect {
-            status: NO_SUCH_PLACE,
-            frame: 0,
-            face: 0,
-            sphere: 0,
-        };
-    }
-    opening(a as usize, b as usize, c as usize)
-}
-
-// Without answers: status 0 is all that an opened set is given.
-pub fn answer(words: &[u8; 96]) -> Outcome {
-    let o = opened(words);
-    refused(o.status)
+// The refusal, if there is one. An opened set is given nothing else.
+pub fn outcome(record: &Record) -> Option<Outcome> {
+    let (given, _) = opened(record)?;
+    Some(told(given, done))
 }
 
 // How many numbers of each buffer open changed.
-pub fn changes(words: &[u8; 96]) -> Outcome {
-    let o = opened(words);
-    if o.status == NO_SUCH_PLACE {
-        return refused(NO_SUCH_PLACE);
-    }
-    Outcome {
-        status: 0,
-        count: 3,
-        first: o.frame as u64,
-        second: o.face as u64,
-        third: o.sphere as u64,
-    }
+pub fn changes(record: &Record) -> Option<Outcome> {
+    let (_, changed) = opened(record)?;
+    Some(answered(changed.map(|count| Some(count as u64))))
 }

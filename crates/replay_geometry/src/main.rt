@@ -9,108 +9,69 @@ mod buffers;
 mod tables;
 
 use crate::buffers::FOREIGN;
+use nearest_calls::nearest;
 use open_calls::open;
-use replay::outcome::Outcome;
-use replay::record::Next;
-use replay::{record, report};
+use replay::function::Function;
+use replay::outcome::{Outcome, one, refused, told, whole};
+use replay::record::Record;
+use replay_arguments::spherical;
 use set::sizes::{FACE_STORE, FRAME, SPHERE_STORE};
 use std::io;
-use std::io::{Read, Write};
 
-// The outcome of the function with this number, on an opened set.
-fn outcome(
-    number: u8,
-    words: &[u8; 96],
-    frame: &[f64; FRAME],
-    face: &[f64; FACE_STORE],
-    sphere: &[f64; SPHERE_STORE],
-) -> Outcome {
-    match number {
-        1 => tables::get_origin(words),
-        2 => tables::face_triangle(words),
-        3 => buffers::row(frame, words),
-        4 => buffers::row(face, words),
-        5 => buffers::row(sphere, words),
-        6 => buffers::answer(words),
-        7 => buffers::changes(words),
-        8 => ask::nearest(words),
-        9 => ask::haversine(words),
-        10 => ask::transform_quat(words),
-        11 => ask::get_face_triangle_index(words),
-        12 => ask::normalize_gamma(words),
-        _ => ask::should_reflect(words),
+// The refusal of a record that asks for a place that there is not. No call has it, so that the record is shown.
+const NO_SUCH_PLACE: u8 = 255;
+
+// The buffers of an opened set.
+#[derive(Drop)]
+struct Set {
+    frame: [f64; FRAME],
+    face: [f64; FACE_STORE],
+    sphere: [f64; SPHERE_STORE],
+}
+
+// The outcome of a record's function, on an opened set. None where a record asks for a place that there is not.
+fn outcome(set: &Set, record: &Record) -> Option<Outcome> {
+    match record.head.number {
+        1 => tables::number_of_origin(record),
+        2 => tables::corner_of_triangle(record),
+        3 => buffers::row(&set.frame, record),
+        4 => buffers::row(&set.face, record),
+        5 => buffers::row(&set.sphere, record),
+        6 => buffers::outcome(record),
+        7 => buffers::changes(record),
+        8 => Some(told(nearest(spherical(record, 0)), |id| whole(u64::from(id)))),
+        9 => Some(told(ask::haversine(record), one)),
+        10 => Some(ask::turned(record)),
+        11 => Some(ask::get_face_triangle_index(record)),
+        12 => Some(ask::normalize_gamma(record)),
+        _ => Some(ask::should_reflect(record)),
     }
 }
 
-// Reads one record and replays it. Answers whether there was one.
-fn replay_next<R: Read, W: Write>(
-    from: &mut R,
-    to: &mut W,
-    names: &[u8],
-    takes: &[u8],
-    frame: &[f64; FRAME],
-    face: &[f64; FACE_STORE],
-    sphere: &[f64; SPHERE_STORE],
-    compared: &mut [u64; 32],
-    differ: &mut [u64; 32],
-) -> io::Result<bool> {
-    let mut words = [0u8; 96];
-    let next = record::read(from, to, takes, &mut words)?;
-    let Next::Record(head) = next else {
-        return Ok(false);
-    };
-    let given = outcome(head.number, &words, frame, face, sphere);
-    replay_tally::compare(to, names, head, &words, given, compared, differ)?;
-    Ok(true)
-}
-
-// Nothing says that the input ends, so the loop counts its records down from more than any list has.
-fn run<R: Read, W: Write>(
-    from: &mut R,
-    to: &mut W,
-    names: &[u8],
-    takes: &[u8],
-    frame: &[f64; FRAME],
-    face: &[f64; FACE_STORE],
-    sphere: &[f64; SPHERE_STORE],
-) -> io::Result<()> {
-    let mut compared = [0u64; 32];
-    let mut differ = [0u64; 32];
-    let mut left: u32 = 0xffff_ffff;
-    while left > 0
-        && replay_next(
-            from,
-            to,
-            names,
-            takes,
-            frame,
-            face,
-            sphere,
-            &mut compared,
-            &mut differ,
-        )?
-    {
-        left -= 1;
-    }
-    if left == 0 {
-        report::too_long(to)?;
-    }
-    report::summaries(to, names, 13, &compared, &differ)
-}
-
-// The functions' names and how many arguments each takes, by their numbers, from 1.
 fn main(rt: HostRuntime) -> io::Result<()> {
-    let mut frame = [FOREIGN; FRAME];
-    let mut face = [FOREIGN; FACE_STORE];
-    let mut sphere = [FOREIGN; SPHERE_STORE];
-    open(&mut frame, &mut face, &mut sphere);
-    run(
-        &mut rt.stdin(),
-        &mut rt.stdout(),
-        b" get_origin face_triangle frame face_store sphere_store open open_changes nearest haversine transform_quat get_face_triangle_index normalize_gamma should_reflect",
-        b"02211133247212",
-        &frame,
-        &face,
-        &sphere,
-    )
+    let functions = [
+        Function::new("get_origin", 2),
+        Function::new("face_triangle", 2),
+        Function::new("frame", 1),
+        Function::new("face_store", 1),
+        Function::new("sphere_store", 1),
+        Function::new("open", 3),
+        Function::new("open_changes", 3),
+        Function::new("nearest", 2),
+        Function::new("haversine", 4),
+        Function::new("transform_quat", 7),
+        Function::new("get_face_triangle_index", 2),
+        Function::new("normalize_gamma", 1),
+        Function::new("should_reflect", 2),
+    ];
+    let mut set = Set {
+        frame: [FOREIGN; FRAME],
+        face: [FOREIGN; FACE_STORE],
+        sphere: [FOREIGN; SPHERE_STORE],
+    };
+    // Where it is not opened, the rows differ.
+    let _given = open(&mut set.frame, &mut set.face, &mut set.sphere);
+    replay_tally::run(&mut rt.stdin(), &mut rt.stdout(), &functions, |record| {
+        outcome(&set, record).unwrap_or(refused(NO_SUCH_PLACE))
+    })
 }
