@@ -11,10 +11,10 @@ use dodecahedron::place::Place;
 use place_list::PlaceResult;
 
 // What place gave, as a result.
-pub fn result(given: Result<Place, Refusal>) -> PlaceResult
-    ensures { result ≡ result_of (given given) }
+pub fn result(outcome: Result<Place, Refusal>) -> PlaceResult
+    ensures { result ≡ result_of (given outcome) }
 {
-    match given {
+    match outcome {
         Ok(p) => PlaceResult {
             refusal: 0,
             origin: p.origin,
