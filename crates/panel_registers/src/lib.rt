@@ -2,13 +2,13 @@
 #![tactic(auto)]
 
 ghost use Rattle.std.specs.Prelude.{◌≡◌, length};
-ghost use Rattle.answer.specs.Answer.{given_check};
+ghost use Rattle.answer.specs.Answer.{given};
 ghost use Rattle.arithmetic.specs.Arith.{ieee};
 ghost use Rattle.panel.specs.Registers.{BLOCK, check_block, shared, interrupt as Registers·interrupt, interrupt_anew};
 ghost use Rattle.panel.specs.Registers.{ended, done as Registers·done, placed, unplaced, refused_with};
 ghost use Rattle.panel.specs.Step.{command_in};
 
-use answer::{Check, Refusal};
+use answer::Refusal;
 use big_endian::write_double;
 use coordinates::lonlat::LonLat;
 use dodecahedron::place::Place;
@@ -16,42 +16,36 @@ use panel::registers::Command;
 use strike_records::record::{face, lon_lat};
 
 // 23: the block has 32 bytes.
-pub fn check_block(block: &[u8]) -> Check
-    ensures { given_check result ≡ check_block block.now }
+#[tactic(auto, unfolding(panel::specs::Registers::check_block))]
+pub fn check_block(block: &[u8]) -> Result<(), Refusal>
+    ensures { given result ≡ check_block block.now }
 {
     if block.len() != 32 {
-        return Check::Refused(Refusal::BlockLength);
+        return Err(Refusal::BlockLength);
     }
-    Check::Passed
+    Ok(())
 }
 
 // The command that a block holds, with its inputs.
+#[tactic(auto, unfolding(panel::specs::Step::command_in))]
 pub fn asked(block: &[u8]) -> Command
     requires { length block.now ≡ BLOCK }
     ensures { result ≡ command_in ieee block.now }
 {
-    let value = block[0];
-    if value == 0 {
-        return Command::Nothing;
+    match block[0] {
+        0 => Command::Nothing,
+        1 => Command::Place(lon_lat(block, 8)),
+        2 => Command::Unplace(face(block, 8), block[4]),
+        _ => Command::Unknown,
     }
-    if value == 1 {
-        return Command::Place(lon_lat(block, 8));
-    }
-    if value == 2 {
-        let origin = block[4];
-        return Command::Unplace(face(block, 8), origin);
-    }
-    Command::Unknown
 }
 
 // Whether both numbers have bit 0.
+#[tactic(auto, unfolding(panel::specs::Registers::shared))]
 fn share(a: u8, b: u8) -> bool
     ensures { result ≡ shared a b }
 {
-    if a % 2 != 1 {
-        return false;
-    }
-    b % 2 == 1
+    a % 2 == 1 && b % 2 == 1
 }
 
 // The interrupt line: whether status and mask share bit 0 or bit 1.
@@ -59,12 +53,12 @@ fn interrupt(status: u8, mask: u8) -> u8
     ensures { result ≡ Registers·interrupt status mask }
 {
     if share(status, mask) {
-        return 1;
+        1
+    } else if share(status / 2, mask / 2) {
+        1
+    } else {
+        0
     }
-    if share(status / 2, mask / 2) {
-        return 1;
-    }
-    0
 }
 
 // Works the interrupt byte out anew.

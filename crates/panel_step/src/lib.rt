@@ -68,7 +68,7 @@ fn carry_out(frame: &[f64], face_store: &mut [f64], sphere_store: &mut [f64], bl
         Command::Nothing => write_interrupt(block),
         Command::Place(p) => carry_place(frame, face_store, sphere_store, p, block),
         Command::Unplace(f, o) => carry_unplace(frame, face_store, sphere_store, f, o, block),
-        Command::Unknown => write_refusal(block, 12),
+        Command::Unknown => write_refusal(block, Refusal::RecordKind.number()),
     }
 }
 

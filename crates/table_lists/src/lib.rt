@@ -30,6 +30,7 @@ fn place_one_with(
 }
 
 // 1, 2, 3, 21, 22, 14.
+#[tactic(auto, unfolding(place_list::specs::Lists::check_list))]
 fn check_list_with(
     table: [f64; 84],
     frame: &[f64],

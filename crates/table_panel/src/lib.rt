@@ -83,7 +83,7 @@ fn carry_out_with(
             o,
             block,
         ),
-        Command::Unknown => write_refusal(block, 12),
+        Command::Unknown => write_refusal(block, Refusal::RecordKind.number()),
     }
 }
 

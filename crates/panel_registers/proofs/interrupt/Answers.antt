@@ -17,9 +17,9 @@ returns-then-share c = rw (sym c.share.ensures ∙ c.if-share.true, interrupt)
 pub returns-then-share-2 : goal.returns-then-share-2
 returns-then-share-2 c =
     let a = c.args in
-    line_is a.status a.mask _ _ (sym c.share.ensures ∙ c.if-share.false) (sym c.share-2.ensures ∙ c.if-share-2.true)
+    line_is a.status a.mask _ _ (sym c.share.ensures ∙ c.if-share.false) (sym c.share-else-share.ensures ∙ c.if-share-2.true)
 
-pub returns : goal.returns
-returns c =
+pub returns-else-share-2 : goal.returns-else-share-2
+returns-else-share-2 c =
     let a = c.args in
-    line_is a.status a.mask _ _ (sym c.share.ensures ∙ c.if-share.false) (sym c.share-2.ensures ∙ c.if-share-2.false)
+    line_is a.status a.mask _ _ (sym c.share.ensures ∙ c.if-share.false) (sym c.share-else-share.ensures ∙ c.if-share-2.false)
