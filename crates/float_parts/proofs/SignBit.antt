@@ -9,12 +9,31 @@ use lib.Dec.{T, leb}
 use lib.Ieee.{Float, nan, inf, fin, binary64, div, neg, of_bits, to_bits, nan_bits, is_nan, fits}
 use lib.Ieee.Bits.{of_bits-to_bits, to_bits-lt, nan_bits_is}
 use lib.Ieee.Fits.{neg-fits, inf-fits}
+use Rattle.std.specs.Float.{is_sign_negative}
 use Rattle.float_parts.specs.Signs.{abs, negative}
 
 -- NaN as the code makes it
 pub zero_by_zero : div binary64 (of_bits binary64 0) (of_bits binary64 0) ≡ nan
 unfolding div of_bits
 zero_by_zero = refl
+
+-- ---- what std says
+
+pub negative_number : (x : Float) → is_nan x ≡ false → negative x ≡ is_sign_negative x
+unfolding negative is_nan is_sign_negative
+negative_number nan n = refl
+negative_number (inf s) n = refl
+negative_number (fin s m e) n = refl
+
+pub the_nan : (x : Float) → is_nan x ≡ true → x ≡ nan
+unfolding is_nan
+the_nan nan n = refl
+the_nan (inf s) n = cc
+the_nan (fin s m e) n = cc
+
+pub negative_nan : (x : Float) → is_nan x ≡ true → negative x ≡ false
+unfolding negative
+negative_nan x n = ap negative (the_nan x n)
 
 -- ---- the size
 

@@ -12,7 +12,7 @@ use Rattle.arithmetic.proofs.Powers.{size_is}
 use Rattle.arithmetic.proofs.Root.{Floor, lt_of_squares, floor_unique, rounds_up, rounds_down}
 use Rattle.arithmetic.proofs.Rounds.{exact_floor, square_rounds, no_square_rounds}
 use Rattle.arithmetic.proofs.Width.{Wide, scaled}
-use Rattle.root_digits.specs.Digits.{Marked, Found, Ended}
+use Rattle.root_digits.specs.Digits.{Marked, Found}
 
 -- ---- before the first round
 

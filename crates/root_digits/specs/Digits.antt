@@ -1,6 +1,6 @@
 -- The digits of a square root found so far, and the words that carry them. Definitions only.
 use Rattle.std.specs.Prelude.{◌≡◌, ℕ, ◌+◌, ◌-◌, ◌*◌, ◌/◌, ◌%◌, ◌^◌, ◌<◌, ◌≤◌, ◌⊎◌, bit_and}
-use Rattle.root_digits.specs.declared.Two.{Two}
+use Rattle.root_digits.specs.declared.Digits.{Digits}
 
 -- t in units of r, a power of two: any digits, then 010
 pub record Marked (t r : ℕ) : Type 0 where
@@ -33,9 +33,9 @@ Ended n t y r k = Found n t y r k × ((r ≡ 0) ⊎ (y ≡ 0))
 
 -- the digits of two numbers' roots after as many rounds of each: no digit is left to find, or what is left of the two numbers has no digit
 -- in common, as where nothing is left of one
-abbrev pub FoundBoth : ℕ → ℕ → Two → Type 0
+abbrev pub FoundBoth : ℕ → ℕ → Digits × Digits → Type 0
 FoundBoth m n d =
-    Found m d.first.t d.first.y d.first.r d.first.rounds
-    × Found n d.second.t d.second.y d.second.r d.second.rounds
-    × (d.second.rounds ≡ d.first.rounds)
-    × ((d.first.r ≡ 0) ⊎ (bit_and d.first.y d.second.y ≡ 0))
+    Found m d.0.t d.0.y d.0.r d.0.rounds
+    × Found n d.1.t d.1.y d.1.r d.1.rounds
+    × (d.1.rounds ≡ d.0.rounds)
+    × ((d.0.r ≡ 0) ⊎ (bit_and d.0.y d.1.y ≡ 0))

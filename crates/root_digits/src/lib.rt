@@ -66,23 +66,16 @@ pub fn digits_from(m: u64, found: Digits) -> Digits
         let left = rest(y, t);
         t = following(y, t, r);
         y = left;
-        r = r / 2;
-        rounds = rounds + 1;
+        r /= 2;
+        rounds += 1;
     }
     Digits { t, y, r, rounds }
 }
 
-// The digits of two roots, as far as they are found together.
-#[derive(Clone, Copy)]
-pub struct Two {
-    pub first: Digits,
-    pub second: Digits,
-}
-
-// One digit of each a round, until none is left or those found of one are the exact root: the two wait for each other's words
+// The digits of two roots, as far as they are found together: one of each a round, until none is left or those found of one are the exact root: the two wait for each other's words
 // nowhere, so that the processor works on both at once. The words are t and y for the first, u and z for the second. One test
 // sees whether nothing is left of either; it leaves the loop too where y and z are above 0 and have no digit in common.
-pub fn digits_of_both(m: u64, n: u64) -> Two
+pub fn digits_of_both(m: u64, n: u64) -> (Digits, Digits)
     requires { (2 ^ 52 ≤ m) × (m < 2 ^ 54) × (2 ^ 52 ≤ n) × (n < 2 ^ 54) }
     ensures { FoundBoth (m * 2 ^ 52) (n * 2 ^ 52) result }
 {
@@ -99,8 +92,8 @@ pub fn digits_of_both(m: u64, n: u64) -> Two
         let left = rest(z, u);
         u = following(z, u, r);
         z = left;
-        r = r / 2;
-        rounds = rounds + 1;
+        r /= 2;
+        rounds += 1;
     }
     let first = Digits { t, y, r, rounds };
     let second = Digits {
@@ -109,7 +102,7 @@ pub fn digits_of_both(m: u64, n: u64) -> Two
         r,
         rounds,
     };
-    Two { first, second }
+    (first, second)
 }
 
 // The whole number nearest to the root: the digits, or 1 more where the root lies beyond them by more than 1/2. It never lies

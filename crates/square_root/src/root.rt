@@ -15,7 +15,7 @@ use root_digits::{Digits, digits_from, digits_of_both, no_digits, rounded};
 fn pattern(x: f64) -> u64
     ensures { Pattern x result }
 {
-    if x != x {
+    if x.is_nan() {
         return 0;
     }
     let b = f64::to_bits(x);
@@ -79,7 +79,7 @@ fn root_elsewhere(x: f64) -> f64
     requires { positive x ≡ false }
     ensures { result ≡ sqrt x }
 {
-    if x < 0.0 { 0.0 / 0.0 } else { x }
+    if x < 0.0 { f64::NAN } else { x }
 }
 
 // The root of a value, and the rounds that its digits took.
@@ -124,34 +124,22 @@ pub fn sqrt_rounds(x: f64) -> u32
     r.rounds
 }
 
-// The square roots of two values.
-#[derive(Clone, Copy)]
-pub struct Roots {
-    pub first: f64,
-    pub second: f64,
-}
-
 // Both square roots, in about the time of one: the digits are found together until those of one are exact, and then the other's
 // from where they stand.
-pub fn sqrt_both(x: f64, y: f64) -> Roots
-    ensures { (result.first ≡ sqrt x) × (result.second ≡ sqrt y) }
+pub fn sqrt_both(x: f64, y: f64) -> (f64, f64)
+    ensures { (result.0 ≡ sqrt x) × (result.1 ≡ sqrt y) }
 {
     let b = pattern(x);
     let c = pattern(y);
     if b == 0 || c == 0 {
-        return Roots {
-            first: sqrt(x),
-            second: sqrt(y),
-        };
+        return (sqrt(x), sqrt(y));
     }
     let n = full_width(b);
     let k = full_width(c);
-    let found = digits_of_both(n.m, k.m);
-    let first = found.first;
-    let second = found.second;
+    let (first, second) = digits_of_both(n.m, k.m);
     let d = digits_from(n.m, first);
     let first = root_value(b, n, d);
     let e = digits_from(k.m, second);
     let second = root_value(c, k, e);
-    Roots { first, second }
+    (first, second)
 }

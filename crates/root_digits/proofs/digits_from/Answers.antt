@@ -1,5 +1,5 @@
 -- `digits_from` meets its contract. The loop's invariant is `Found`, and its measure is the weight of the next digit. Assumes nothing.
-use Rattle.std.proofs.Common.{ℕ, ◌*◌, ◌^◌, ◌<◌, arith, ltb-true}
+use Rattle.std.proofs.Common.{ℕ, ◌*◌, ◌^◌, ◌<◌, arith}
 use Rattle.root_digits.specs.Digits.{Marked}
 use Rattle.root_digits.proofs.Round.{t_lt, y_lt, marked, next}
 use Rattle.root_digits.proofs.digits_from.Lts as lts
@@ -33,7 +33,7 @@ module _ (turn : goal.Then-r-gt0) where
   some_left = turn.loop-y-test.true
 
   digit_left : 0 < at.loop-y.r
-  digit_left = ltb-true 0 at.loop-y.r turn.if-r-gt0.true-raw
+  digit_left = omega arith
 
   last_digits : Marked at.loop-y.t at.loop-y.r
   last_digits = let l = at.loop-y in marked (n at) l.t l.y l.r l.rounds l.invariant digit_left some_left

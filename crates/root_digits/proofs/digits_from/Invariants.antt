@@ -1,9 +1,6 @@
 -- `digits_from` meets its contract. The loop's invariant is `Found`, and its measure is the weight of the next digit. Assumes nothing.
 use Rattle.std.proofs.Common.{◌*◌, ◌^◌}
 use Rattle.root_digits.specs.Digits.{Found}
-use Rattle.root_digits.proofs.digits_from.Lts as lts
-use Rattle.root_digits.proofs.digits_from.Reads as reads
-use Rattle.root_digits.proofs.digits_from.Tie as tie
 use Rattle.root_digits.proofs.digits_from.Given as goal
 
 abbrev pub invariant-loop-y : goal.invariant-loop-y

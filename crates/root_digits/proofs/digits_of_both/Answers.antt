@@ -1,6 +1,6 @@
 -- `digits_of_both` meets its contract. The loop's invariant is `Found` of each root, at one weight and one count of rounds; its measure is
 -- the weight of the next digit. Assumes nothing.
-use Rattle.std.proofs.Common.{ℕ, ◌*◌, ◌^◌, ◌<◌, arith, ltb-true}
+use Rattle.std.proofs.Common.{ℕ, ◌*◌, ◌^◌, ◌<◌, arith}
 use lib.Bits.{bit_and}
 use Rattle.root_digits.specs.Digits.{Marked}
 use Rattle.root_digits.proofs.Common.{left_some, right_some}
@@ -48,7 +48,7 @@ module _ (turn : goal.Then-y-z-gt0) where
   digit_left = turn.loop-r-test.true
 
   in_common : 0 < bit_and at.loop-r.y at.loop-r.z
-  in_common = ltb-true 0 (bit_and at.loop-r.y at.loop-r.z) turn.if-y-z-gt0.true-raw
+  in_common = omega arith
 
   y_left : 0 < at.loop-r.y
   y_left = left_some at.loop-r.y at.loop-r.z in_common

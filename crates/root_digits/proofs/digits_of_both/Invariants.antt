@@ -2,9 +2,6 @@
 -- the weight of the next digit. Assumes nothing.
 use Rattle.std.proofs.Common.{◌*◌, ◌^◌}
 use Rattle.root_digits.specs.Digits.{Found}
-use Rattle.root_digits.proofs.digits_of_both.Lts as lts
-use Rattle.root_digits.proofs.digits_of_both.Reads as reads
-use Rattle.root_digits.proofs.digits_of_both.Tie as tie
 use Rattle.root_digits.proofs.digits_of_both.Given as goal
 
 abbrev pub invariant-loop-r : goal.invariant-loop-r

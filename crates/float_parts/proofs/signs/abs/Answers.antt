@@ -1,29 +1,25 @@
 -- `abs` meets its contract: the sign bit is cleared, and a NaN stays. Assumes nothing.
 use mathlib.Core.Path.{sym, ap, ◌∙◌}
+use mathlib.Core.Bool.{not}
 use lib.Dec.{T}
-use lib.Ieee.{binary64, fits}
+use lib.Ieee.{binary64, fits, is_nan}
 use Rattle.float_parts.specs.Signs.{abs}
-use Rattle.answer.proofs.NotANumber.{is_nan_lem, is_number}
-use Rattle.float_parts.proofs.SignBit.{cleared, cleared_number}
-use Rattle.float_parts.proofs.signs.abs.Lts as lts
-use Rattle.float_parts.proofs.signs.abs.Reads as reads
+use Rattle.float_parts.proofs.SignBit.{cleared, cleared_number, the_nan}
 use Rattle.float_parts.proofs.signs.abs.Goals as goal
-
-abbrev Start : Type 0
-Start = lts.Start reads.Pre reads.Post
+use Rattle.float_parts.proofs.signs.abs.Goals.{Start}
 
 held : (c : Start) → T (fits binary64 c.args.x)
 held c = rw c.well_formed.0.1 tt
 
-pub returns-then-x : goal.returns-then-x
-unfolding abs
-returns-then-x c = let n = is_nan_lem c.args.x c.if-x.true in n ∙ ap abs (sym n)
+number : (c : goal.Else-is_nan) → T (not (is_nan c.args.x))
+number c = c.if-is_nan.ensures.not_nan
 
-pub float_to_bits-result : goal.float_to_bits-result
-float_to_bits-result c = is_number c.args.x c.if-x.false
+pub returns-then-is_nan : goal.returns-then-is_nan
+unfolding abs
+returns-then-is_nan c = let n = the_nan c.args.x (sym c.if-is_nan.ensures.value) in n ∙ ap abs (sym n)
 
 pub float_from_bits-result : goal.float_from_bits-result
-float_from_bits-result c = cleared_number c.args.x (held c.before) (float_to_bits-result c)
+float_from_bits-result c = cleared_number c.args.x (held c.before.before) (number c)
 
 pub returns : goal.returns
-returns c = cleared c.args.x (held c.before) (float_to_bits-result c)
+returns c = cleared c.args.x (held c.before.before) (number c)

@@ -4,16 +4,8 @@ use native.Mathlib.Omega.{arith}
 use borrow.Author.Tests.{eqb-false}
 use lib.Ieee.{Float, binary64, of_bits}
 use Rattle.square_root.proofs.RootBits.{radicand_lo, radicand_hi}
-use Rattle.square_root.proofs.root.sqrt_both.Lts as lts
-use Rattle.square_root.proofs.root.sqrt_both.Reads as reads
-use Rattle.square_root.proofs.root.sqrt_both.Tie as tie
 use Rattle.square_root.proofs.root.sqrt_both.Goals as goal
-
-abbrev Else-c-eq0 : Type 0
-Else-c-eq0 = lts.Else2 tie.the-claims reads.Pre reads.Post
-
-abbrev After-pattern-c : Type 0
-After-pattern-c = lts.After-pattern2 tie.the-claims reads.Pre reads.Post
+use Rattle.square_root.proofs.root.sqrt_both.Goals.{Else-c-eq0, After-pattern-c, After-full_width-k, After-root_value-first}
 
 -- both patterns are above 0
 module _ (c : Else-c-eq0) where
@@ -24,10 +16,10 @@ module _ (c : Else-c-eq0) where
   first_above = omega (arith, c.if-b-eq0.false)
 
   second_above : 0 < patterns.pattern-c.result
-  second_above = omega (arith, eqb-false patterns.pattern-c.result 0 c.if-c-eq0.false-raw)
+  second_above = omega (arith, c.if-c-eq0.false)
 
 -- the numbers whose roots' digits are found
-module _ (c : goal.After-full_width-k) where
+module _ (c : After-full_width-k) where
   abbrev tested : Else-c-eq0
   tested = c.before.before
 
@@ -55,18 +47,18 @@ module _ (c : goal.After-full_width-k) where
   k_hi : k < 2 ^ 54
   k_hi = radicand_hi second k c.full_width-k.result.e c.full_width-k.ensures
 
-pub digits_of_both-found-requires : goal.digits_of_both-found-requires
-digits_of_both-found-requires c = (m_lo c, m_hi c, k_lo c, k_hi c)
+pub digits_of_both-requires : goal.digits_of_both-requires
+digits_of_both-requires c = (m_lo c, m_hi c, k_lo c, k_hi c)
 
 pub digits_from-d-requires : goal.digits_from-d-requires
 digits_from-d-requires c =
-    (m_hi c.before.before.before, c.digits_of_both-found.ensures.0)
+    (m_hi c.before.before.before, c.digits_of_both.ensures.0)
 
 -- the numbers, from where the first root is made
-abbrev numbers : goal.After-root_value-first → goal.After-full_width-k
+abbrev numbers : After-root_value-first → After-full_width-k
 numbers c =
     c.before.before.before.before.before
 
 pub digits_from-e-requires : goal.digits_from-e-requires
 digits_from-e-requires c =
-    (k_hi (numbers c), c.digits_of_both-found.ensures.1)
+    (k_hi (numbers c), c.digits_of_both.ensures.1)
