@@ -7,7 +7,8 @@ ghost use Rattle.std.specs.Float.Ieee.{lt, rem, of_bits};
 ghost use Rattle.std.specs.Float.Ieee.Exact.{HasValue};
 ghost use Rattle.float_parts.specs.Signs.{negative};
 
-// m * 2^k mod n. What is left stays below 2^53, so a word holds it with eleven places more: one division for each eleven.
+// m * 2^k mod n. What is left stays below 2^53, so a word holds it with eleven places more: one division for each eleven. No index is
+// counted: the places that are left end the loop.
 fn shifted(m: u64, n: u64, k: u64) -> u64
     requires { (m < 2 ^ 53) × (0 < n) × (n < 2 ^ 53) }
     ensures { result ≡ m * 2 ^ k % n }
@@ -60,12 +61,12 @@ fn of_sizes(a: f64, b: f64) -> f64
         return d;
     }
     if !answer::is_finite(a) {
-        return 0.0 / 0.0;
+        return f64::NAN;
     }
     if 0.0 < b {
         f64::from_bits(of_patterns(f64::to_bits(a), f64::to_bits(b)))
     } else {
-        0.0 / 0.0
+        f64::NAN
     }
 }
 

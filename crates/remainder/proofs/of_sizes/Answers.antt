@@ -9,18 +9,9 @@ use lib.Dec.{T}
 use lib.Ieee.{binary64, fits, of_bits, to_bits}
 use lib.Ieee.Bits.{of_bits-to_bits, nan_bits_above}
 use Rattle.answer.specs.Number.{is_finite}
-use Rattle.float_parts.proofs.SignBit.{zero_by_zero}
 use Rattle.remainder.proofs.Values.{once, not_finite, no_divisor, finite_divisor, finite_number, finite_pattern, some_pattern, irreflexive}
-use Rattle.remainder.proofs.of_sizes.Lts as lts
-use Rattle.remainder.proofs.of_sizes.Reads as reads
-use Rattle.remainder.proofs.of_sizes.Tie as tie
 use Rattle.remainder.proofs.of_sizes.Goals as goal
-
-abbrev Start : Type 0
-Start = lts.Start tie.the-claims reads.Pre reads.Post
-
-abbrev Else-not-is_finite : Type 0
-Else-not-is_finite = lts.Else2 tie.the-claims reads.Pre reads.Post
+use Rattle.remainder.proofs.of_sizes.Goals.{Start, Else-not-is_finite}
 
 -- a station
 abbrev start : Else-not-is_finite → Start
@@ -49,8 +40,9 @@ pub returns-then-d-b : goal.returns-then-d-b
 returns-then-d-b c = once c.args.a c.args.b (held_b c.before) c.requires.0 c.requires.1 c.requires.2 c.if-d-b.true
 
 pub returns-then-not-is_finite : goal.returns-then-not-is_finite
+unfolding of_bits
 returns-then-not-is_finite c =
-    zero_by_zero ∙ not_finite c.args.a c.args.b (sym c.is_finite.ensures ∙ not-true c.is_finite.result c.if-not-is_finite.true-raw)
+    not_finite c.args.a c.args.b (sym c.is_finite.ensures ∙ not-true c.is_finite.result c.if-not-is_finite.true-raw)
 
 pub float_to_bits-a : goal.float_to_bits-a
 float_to_bits-a c = finite_number (start c.before).args.a (finite_a c.before)
@@ -74,4 +66,5 @@ pub returns-then-b : goal.returns-then-b
 returns-then-b c = let s = start c.before.before in rw (back_a s, back_b s) at c.of_patterns.ensures.1
 
 pub returns-else-b : goal.returns-else-b
-returns-else-b c = let s = start c.before in zero_by_zero ∙ no_divisor s.args.a s.args.b s.requires.1 (finite_a c.before) c.if-b.false
+unfolding of_bits
+returns-else-b c = let s = start c.before in no_divisor s.args.a s.args.b s.requires.1 (finite_a c.before) c.if-b.false

@@ -1,7 +1,6 @@
 -- `sqrt_both` meets its contract: where both values are finite and above zero, each root is made of its own digits. Assumes nothing.
 use Prim.Native.Nat.{ℕ, ◌^◌, ◌≤◌, ◌<◌}
 use native.Mathlib.Omega.{arith}
-use borrow.Author.Tests.{eqb-false}
 use lib.Ieee.{Float, binary64, of_bits}
 use Rattle.square_root.proofs.RootBits.{radicand_lo, radicand_hi}
 use Rattle.square_root.proofs.root.sqrt_both.Goals as goal
