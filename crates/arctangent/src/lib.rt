@@ -7,7 +7,7 @@ ghost use Rattle.arithmetic.specs.Sqrt.{sqrt};
 ghost use Rattle.float_parts.specs.Signs.{abs, with_sign};
 ghost use Rattle.elementary.specs.Arctangent.{core, atan_size, atan, tangent, atan2_base, atan2};
 
-use arctangent_core::{AngleAndRoot, Both, core, core_and_sqrt, core_both};
+use arctangent_core::{AngleAndRoot, core, core_and_sqrt, core_both};
 use float_parts::signs::{abs, negative};
 
 const PI: f64 = 3.141592653589793;
@@ -65,10 +65,10 @@ fn atan2_from(y: f64, x: f64, angle: f64) -> f64
     ensures { result ≡ atan2 ieee y x }
 {
     if !answer::is_finite(y) {
-        return 0.0 / 0.0;
+        return f64::NAN;
     }
     if !answer::is_finite(x) {
-        return 0.0 / 0.0;
+        return f64::NAN;
     }
     let base = atan2_base(abs(y), abs(x), angle);
     if negative(x) {
@@ -86,14 +86,11 @@ pub fn atan2(y: f64, x: f64) -> f64
 }
 
 // The angles of the points (x, y) and (u, v), in about the time of one.
-pub fn atan2_both(y: f64, x: f64, v: f64, u: f64) -> Both
-    ensures { (result.first ≡ atan2 ieee y x) × (result.second ≡ atan2 ieee v u) }
+pub fn atan2_both(y: f64, x: f64, v: f64, u: f64) -> (f64, f64)
+    ensures { (result.0 ≡ atan2 ieee y x) × (result.1 ≡ atan2 ieee v u) }
 {
     let angles = core_both(tangent(y, x), tangent(v, u));
-    Both {
-        first: atan2_from(y, x, angles.first),
-        second: atan2_from(v, u, angles.second),
-    }
+    (atan2_from(y, x, angles.0), atan2_from(v, u, angles.1))
 }
 
 // The angle of the point (x, y), and beside its first root that of z.

@@ -3,40 +3,35 @@
 #![tactic(auto)]
 
 ghost use Rattle.std.specs.Prelude.{◌≡◌};
+ghost use Rattle.std.specs.Float.{binary64};
+ghost use Rattle.std.specs.Float.Ieee.{mul};
 ghost use Rattle.arithmetic.specs.Arith.{ieee};
+ghost use Rattle.arithmetic.specs.Numbers.{4·0};
 ghost use Rattle.arithmetic.specs.Sqrt.{sqrt};
 ghost use Rattle.elementary.specs.Sine.{series};
 ghost use Rattle.elementary.specs.Constants.{core_first, core_rest};
 ghost use Rattle.elementary.specs.Arctangent.{halved, core};
 
+use elementary::alternating::series;
 use square_root::root::{sqrt, sqrt_both};
 
-// 1/k, each in one division.
-const I25: f64 = 1.0 / 25.0;
+// 1/k, each in one division: of 25, and then of the others, down to 1.
+const CORE_FIRST: f64 = 1.0 / 25.0;
 
-const I23: f64 = 1.0 / 23.0;
-
-const I21: f64 = 1.0 / 21.0;
-
-const I19: f64 = 1.0 / 19.0;
-
-const I17: f64 = 1.0 / 17.0;
-
-const I15: f64 = 1.0 / 15.0;
-
-const I13: f64 = 1.0 / 13.0;
-
-const I11: f64 = 1.0 / 11.0;
-
-const I9: f64 = 1.0 / 9.0;
-
-const I7: f64 = 1.0 / 7.0;
-
-const I5: f64 = 1.0 / 5.0;
-
-const I3: f64 = 1.0 / 3.0;
-
-const I1: f64 = 1.0 / 1.0;
+const CORE_REST: [f64; 12] = [
+    1.0 / 23.0,
+    1.0 / 21.0,
+    1.0 / 19.0,
+    1.0 / 17.0,
+    1.0 / 15.0,
+    1.0 / 13.0,
+    1.0 / 11.0,
+    1.0 / 9.0,
+    1.0 / 7.0,
+    1.0 / 5.0,
+    1.0 / 3.0,
+    1.0 / 1.0,
+];
 
 // The tangent of half the angle whose tangent is t.
 fn halved(t: f64) -> f64
@@ -45,11 +40,35 @@ fn halved(t: f64) -> f64
     t / (1.0 + sqrt(1.0 + t * t))
 }
 
-// What one step gives for two arguments.
-#[derive(Clone, Copy)]
-pub struct Both {
-    pub first: f64,
-    pub second: f64,
+// Both halved, their roots found together.
+fn halved_both(t: f64, u: f64) -> (f64, f64)
+    ensures { (result.0 ≡ halved ieee t) × (result.1 ≡ halved ieee u) }
+{
+    let roots = sqrt_both(1.0 + t * t, 1.0 + u * u);
+    (t / (1.0 + roots.0), u / (1.0 + roots.1))
+}
+
+// The angle of which t is the tangent of a quarter: by the series.
+fn from_quarter(t: f64) -> f64
+    ensures { result ≡ mul binary64 4·0 (mul binary64 t (series ieee (mul binary64 t t) core_first core_rest)) }
+{
+    4.0 * (t * series(t * t, CORE_FIRST, &CORE_REST))
+}
+
+// The angle in 0..π/4 whose tangent is t, in 0..1; by the same steps for every other t.
+pub fn core(t: f64) -> f64
+    ensures { result ≡ core ieee t }
+{
+    from_quarter(halved(halved(t)))
+}
+
+// Both angles, in about the time of one.
+pub fn core_both(t: f64, u: f64) -> (f64, f64)
+    ensures { (result.0 ≡ core ieee t) × (result.1 ≡ core ieee u) }
+{
+    let half = halved_both(t, u);
+    let quarter = halved_both(half.0, half.1);
+    (from_quarter(quarter.0), from_quarter(quarter.1))
 }
 
 // An angle, and the square root that is found beside it.
@@ -59,66 +78,13 @@ pub struct AngleAndRoot {
     pub root: f64,
 }
 
-// Both halved, their roots found together.
-fn halved_both(t: f64, u: f64) -> Both
-    ensures { (result.first ≡ halved ieee t) × (result.second ≡ halved ieee u) }
-{
-    let roots = sqrt_both(1.0 + t * t, 1.0 + u * u);
-    Both {
-        first: t / (1.0 + roots.first),
-        second: u / (1.0 + roots.second),
-    }
-}
-
-// p, where z is t·t.
-fn core_series(z: f64) -> f64
-    ensures { result ≡ series ieee z core_first core_rest }
-{
-    let p = I23 - z * I25;
-    let p = I21 - z * p;
-    let p = I19 - z * p;
-    let p = I17 - z * p;
-    let p = I15 - z * p;
-    let p = I13 - z * p;
-    let p = I11 - z * p;
-    let p = I9 - z * p;
-    let p = I7 - z * p;
-    let p = I5 - z * p;
-    let p = I3 - z * p;
-    let p = I1 - z * p;
-    p
-}
-
-// The angle in 0..π/4 whose tangent is t, in 0..1; by the same steps for every other t.
-pub fn core(t: f64) -> f64
-    ensures { result ≡ core ieee t }
-{
-    let t = halved(halved(t));
-    4.0 * (t * core_series(t * t))
-}
-
-// Both angles, in about the time of one.
-pub fn core_both(t: f64, u: f64) -> Both
-    ensures { (result.first ≡ core ieee t) × (result.second ≡ core ieee u) }
-{
-    let half = halved_both(t, u);
-    let quarter = halved_both(half.first, half.second);
-    let t = quarter.first;
-    let u = quarter.second;
-    Both {
-        first: 4.0 * (t * core_series(t * t)),
-        second: 4.0 * (u * core_series(u * u)),
-    }
-}
-
 // The angle, and beside its first root that of x.
 pub fn core_and_sqrt(t: f64, x: f64) -> AngleAndRoot
     ensures { (result.angle ≡ core ieee t) × (result.root ≡ sqrt x) }
 {
     let roots = sqrt_both(1.0 + t * t, x);
-    let t = halved(t / (1.0 + roots.first));
     AngleAndRoot {
-        angle: 4.0 * (t * core_series(t * t)),
-        root: roots.second,
+        angle: from_quarter(halved(t / (1.0 + roots.0))),
+        root: roots.1,
     }
 }

@@ -2,5 +2,6 @@
 // holds of these, and floor and round. Sine and arc tangent as functions are crates of their own.
 #![tactic(auto)]
 
+pub mod alternating;
 pub mod sine;
 pub mod whole;

@@ -9,73 +9,49 @@ ghost use Rattle.arithmetic.specs.Arith.{ieee};
 ghost use Rattle.elementary.specs.Constants.{sine_first, sine_rest, cosine_first, cosine_rest};
 ghost use Rattle.elementary.specs.Sine.{series, sin_cos_reduced};
 
+use elementary::alternating::series;
 use elementary::sine::SinCos;
 
-// c(k) = 1/k!, each in one division.
-const C0: f64 = 1.0 / 1.0;
+// c(k) = 1/k!, each in one division: c(17), and then the others, down to c(1).
+const SINE_FIRST: f64 = 1.0 / 355687428096000.0;
 
-const C1: f64 = 1.0 / 1.0;
+const SINE_REST: [f64; 8] = [
+    1.0 / 1307674368000.0,
+    1.0 / 6227020800.0,
+    1.0 / 39916800.0,
+    1.0 / 362880.0,
+    1.0 / 5040.0,
+    1.0 / 120.0,
+    1.0 / 6.0,
+    1.0 / 1.0,
+];
 
-const C2: f64 = 1.0 / 2.0;
+// c(16), and then the others, down to c(0).
+const COSINE_FIRST: f64 = 1.0 / 20922789888000.0;
 
-const C3: f64 = 1.0 / 6.0;
-
-const C4: f64 = 1.0 / 24.0;
-
-const C5: f64 = 1.0 / 120.0;
-
-const C6: f64 = 1.0 / 720.0;
-
-const C7: f64 = 1.0 / 5040.0;
-
-const C8: f64 = 1.0 / 40320.0;
-
-const C9: f64 = 1.0 / 362880.0;
-
-const C10: f64 = 1.0 / 3628800.0;
-
-const C11: f64 = 1.0 / 39916800.0;
-
-const C12: f64 = 1.0 / 479001600.0;
-
-const C13: f64 = 1.0 / 6227020800.0;
-
-const C14: f64 = 1.0 / 87178291200.0;
-
-const C15: f64 = 1.0 / 1307674368000.0;
-
-const C16: f64 = 1.0 / 20922789888000.0;
-
-const C17: f64 = 1.0 / 355687428096000.0;
+const COSINE_REST: [f64; 8] = [
+    1.0 / 87178291200.0,
+    1.0 / 479001600.0,
+    1.0 / 3628800.0,
+    1.0 / 40320.0,
+    1.0 / 720.0,
+    1.0 / 24.0,
+    1.0 / 2.0,
+    1.0 / 1.0,
+];
 
 // S = r·p, where z is r·r.
 fn sine_series(r: f64, z: f64) -> f64
     ensures { result ≡ mul binary64 r (series ieee z sine_first sine_rest) }
 {
-    let p = C15 - z * C17;
-    let p = C13 - z * p;
-    let p = C11 - z * p;
-    let p = C9 - z * p;
-    let p = C7 - z * p;
-    let p = C5 - z * p;
-    let p = C3 - z * p;
-    let p = C1 - z * p;
-    r * p
+    r * series(z, SINE_FIRST, &SINE_REST)
 }
 
 // C = p, where z is r·r.
 fn cosine_series(z: f64) -> f64
     ensures { result ≡ series ieee z cosine_first cosine_rest }
 {
-    let p = C14 - z * C16;
-    let p = C12 - z * p;
-    let p = C10 - z * p;
-    let p = C8 - z * p;
-    let p = C6 - z * p;
-    let p = C4 - z * p;
-    let p = C2 - z * p;
-    let p = C0 - z * p;
-    p
+    series(z, COSINE_FIRST, &COSINE_REST)
 }
 
 // The sine after k quarter turns and r: only the series that it needs.

@@ -1,21 +1,23 @@
 -- `atan2_from` meets its contract. Assumes nothing.
 use mathlib.Core.Path.{sym, ap₂, ◌∙◌}
+use lib.Ieee.{of_bits}
 use Rattle.arithmetic.specs.Arith.{ieee}
 use Rattle.elementary.specs.Arctangent.{atan2_base}
 use Rattle.elementary.specs.Constants.{PI}
-use Rattle.float_parts.proofs.SignBit.{zero_by_zero}
 use Rattle.elementary.proofs.Angles.{and_first, and_then, atan2_nan, atan2_left, atan2_right}
 use Rattle.arctangent.proofs.atan2_from.Goals as goal
 
 pub returns-then-not-is_finite : goal.returns-then-not-is_finite
+unfolding of_bits
 returns-then-not-is_finite c =
-    zero_by_zero ∙ sym (atan2_nan _ _ (and_first _ _ (sym c.is_finite.ensures ∙ c.if-not-is_finite.true)))
+    sym (atan2_nan _ _ (and_first _ _ (sym c.is_finite.ensures ∙ c.if-not-is_finite.true)))
 
 pub returns-then-not-is_finite-2 : goal.returns-then-not-is_finite-2
+unfolding of_bits
 returns-then-not-is_finite-2 c =
     let y_finite = sym c.is_finite.ensures ∙ c.if-not-is_finite.false in
     let x_not_finite = sym c.is_finite-2.ensures ∙ c.if-not-is_finite-2.true in
-    zero_by_zero ∙ sym (atan2_nan _ _ (and_then _ _ _ y_finite x_not_finite))
+    sym (atan2_nan _ _ (and_then _ _ _ y_finite x_not_finite))
 
 pub returns-then-negative : goal.returns-then-negative
 unfolding PI

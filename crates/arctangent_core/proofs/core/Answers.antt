@@ -5,4 +5,4 @@ use Rattle.arctangent_core.proofs.core.Goals as goal
 
 pub returns : goal.returns
 unfolding core of_bits
-returns c = rw (c.core_series.ensures, c.halved-t.ensures, c.halved.ensures)
+returns c = rw (c.from_quarter.ensures, c.halved-2.ensures, c.halved.ensures)

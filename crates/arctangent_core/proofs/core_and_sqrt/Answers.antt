@@ -7,4 +7,4 @@ pub returns : goal.returns
 unfolding core halved of_bits
 returns c =
     let roots = c.sqrt_both-roots.ensures in
-    (rw (c.core_series.ensures, c.halved-t.ensures, roots.0), roots.1)
+    (rw (c.from_quarter.ensures, c.halved.ensures, roots.0), roots.1)

@@ -8,4 +8,4 @@ unfolding core of_bits
 returns c =
     let quarters = c.halved_both-quarter.ensures in
     let halves = c.halved_both-half.ensures in
-    (rw (c.core_series.ensures, quarters.0, halves.0), rw (c.core_series-2.ensures, quarters.1, halves.1))
+    (rw (c.from_quarter.ensures, quarters.0, halves.0), rw (c.from_quarter-2.ensures, quarters.1, halves.1))

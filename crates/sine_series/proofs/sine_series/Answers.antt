@@ -1,10 +1,9 @@
--- `sine::sine_series` meets its contract: each line of the code is one step of the sine's series. Assumes nothing.
-use mathlib.Core.Path.{refl}
-use lib.Ieee.{of_bits}
+-- `sine_series` meets its contract: its coefficients are the definition's. Assumes nothing.
+use mathlib.Core.Path.{ap}
+use lib.Ieee.{binary64, mul, of_bits}
 use Rattle.elementary.specs.Constants.{sine_first, sine_rest}
-use Rattle.elementary.specs.Sine.{series}
 use Rattle.sine_series.proofs.sine_series.Goals as goal
 
 pub returns : goal.returns
-unfolding series sine_first sine_rest of_bits
-returns c = refl
+unfolding sine_first sine_rest of_bits
+returns c = ap (mul binary64 c.args.r) c.series.ensures
