@@ -25,7 +25,7 @@ fn atan_size(a: f64) -> f64
     }
 }
 
-// x with the sign that a set or clear sign bit stands for.
+// x with the sign that a set or clear sign bit stands for. Std's copysign takes no NaN for the sign, and compares x with 0 first.
 fn with_sign(negative: bool, x: f64) -> f64
     ensures { result ≡ with_sign negative x }
 {

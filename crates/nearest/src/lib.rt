@@ -2,7 +2,7 @@
 // are crate `nearest_calls`.
 #![tactic(auto)]
 
-ghost use Rattle.std.specs.Prelude.{◌≡◌, true, false, length};
+ghost use Rattle.std.specs.Prelude.{◌≡◌, true, false};
 ghost use Rattle.std.specs.Float.{binary64};
 ghost use Rattle.std.specs.Float.Ieee.{mul, div};
 ghost use Rattle.arithmetic.specs.Arith.{ieee};
@@ -98,20 +98,16 @@ fn haversines(point: Spherical) -> [f64; 12]
 }
 
 // The place of the least, the first where several are equal.
-fn least(distances: &[f64]) -> u8
-    requires { length distances.now ≡ 12 }
+fn least(distances: &[f64; 12]) -> u8
     ensures { result ≡ least distances.now }
 {
-    let mut min_distance = f64::from_bits(0x7ff0_0000_0000_0000);
-    let mut nearest: u8 = 0;
-    let mut i: u8 = 0;
-    while i < 12 {
-        let distance = distances[i as usize];
+    let mut min_distance = f64::INFINITY;
+    let mut nearest = 0;
+    for (i, &distance) in distances.iter().enumerate() {
         if distance < min_distance {
             min_distance = distance;
-            nearest = i;
+            nearest = i as u8;
         }
-        i += 1;
     }
     nearest
 }
@@ -133,11 +129,8 @@ fn haversines_in(table: &[f64; 84], point: Spherical) -> [f64; 12]
 {
     let sine = sin_inside(point.phi.0);
     let mut distances = [0.0; 12];
-    let mut k: u8 = 0;
-    while k < 12 {
-        let origin = origin_in(table, k);
-        distances[k as usize] = haversine_by(point, sine, origin.axis);
-        k += 1;
+    for k in 0..12 {
+        distances[k as usize] = haversine_by(point, sine, origin_in(table, k).axis);
     }
     distances
 }

@@ -44,32 +44,20 @@ fn size(q: f64) -> f64
     f64::from_bits(f64::to_bits(q) % 0x8000_0000_0000_0000)
 }
 
-// The whole number of quarter turns nearest to an angle within a turn, and that number mod 4.
-#[derive(Clone, Copy)]
-struct Nearest {
-    pub n: f64,
-    pub quarter: u64,
-}
-
-// n's sign comes by 0.0 - w, not -w: a whole number has no -0.
-fn quarters(y: f64) -> Nearest
+// The whole number of quarter turns nearest to an angle within a turn, and that number mod 4. Its sign comes by 0.0 - w, not -w: a
+// whole number has no -0.
+fn quarters(y: f64) -> (f64, u64)
     requires { lt (abs y) the_tau ≡ true }
-    ensures n_is { result.n ≡ whole_float ieee (roundℤ (mul binary64 y the_frac_2_pi)) }
-    ensures quarter_is { result.quarter ≡ modulo4 (roundℤ (mul binary64 y the_frac_2_pi)) }
+    ensures n_is { result.0 ≡ whole_float ieee (roundℤ (mul binary64 y the_frac_2_pi)) }
+    ensures quarter_is { result.1 ≡ modulo4 (roundℤ (mul binary64 y the_frac_2_pi)) }
 {
     let q = y * FRAC_2_PI;
     let k = elementary::whole::nearest_size(size(q));
     let w = k as f64;
     if q < 0.0 {
-        Nearest {
-            n: 0.0 - w,
-            quarter: (4 - k % 4) % 4,
-        }
+        (0.0 - w, (4 - k % 4) % 4)
     } else {
-        Nearest {
-            n: w,
-            quarter: k % 4,
-        }
+        (w, k % 4)
     }
 }
 
@@ -86,12 +74,9 @@ fn to_quarter(y: f64) -> Angle
     requires { lt (abs y) the_tau ≡ true }
     ensures { sin_cos_reduced ieee result.quarter result.r ≡ sin_cos ieee y }
 {
-    let t = quarters(y);
-    let r = (y - t.n * FRAC_PI_2) - t.n * PI_2_REST;
-    Angle {
-        r,
-        quarter: t.quarter,
-    }
+    let (n, quarter) = quarters(y);
+    let r = (y - n * FRAC_PI_2) - n * PI_2_REST;
+    Angle { r, quarter }
 }
 
 // The sine.
@@ -100,7 +85,7 @@ pub fn sin_inside(x: f64) -> f64
     ensures { result ≡ sin ieee x }
 {
     if !answer::is_finite(x) {
-        return 0.0 / 0.0;
+        return f64::NAN;
     }
     let t = to_quarter(within_turn(x));
     sin_at(t.quarter, t.r)
@@ -112,7 +97,7 @@ pub fn cos_inside(x: f64) -> f64
     ensures { result ≡ cos ieee x }
 {
     if !answer::is_finite(x) {
-        return 0.0 / 0.0;
+        return f64::NAN;
     }
     let t = to_quarter(within_turn(x));
     cos_at(t.quarter, t.r)
@@ -124,7 +109,7 @@ pub fn sin_cos_inside(x: f64) -> SinCos
     ensures { result ≡ sin_cos ieee x }
 {
     if !answer::is_finite(x) {
-        let nan = 0.0 / 0.0;
+        let nan = f64::NAN;
         return SinCos { sin: nan, cos: nan };
     }
     let t = to_quarter(within_turn(x));

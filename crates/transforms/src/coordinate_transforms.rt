@@ -22,11 +22,11 @@ pub fn to_spherical(cart: Cartesian) -> Spherical
     let z = cart.0.z;
 
     let rxy = sqrt(x * x + y * y);
-    let angles = atan2_both(y, x, rxy, z);
+    let (theta, phi) = atan2_both(y, x, rxy, z);
 
     Spherical {
-        theta: Radians(angles.first),
-        phi: Radians(angles.second),
+        theta: Radians(theta),
+        phi: Radians(phi),
     }
 }
 

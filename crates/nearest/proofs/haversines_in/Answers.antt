@@ -1,5 +1,4 @@
--- `haversines_in` meets its contract. The loop's invariant: the first k distances are the first k haversines. The measure: how many
--- axes are left. Assumes nothing.
+-- `haversines_in` meets its contract. The loop's invariant: the first k distances are the first k haversines. Assumes nothing.
 use mathlib.Core.Path.{sym, ◌∙◌}
 use native.Mathlib.Omega.{arith}
 use lib.ListN.{length-set}
@@ -18,7 +17,7 @@ haversine_by-requires c =
     let o = sound_small c.args.table.now c.requires.table_value k (omega arith) in
     record {
       theta_value = c.requires.theta_value;
-      theta_value_2 = rw c.origin_in-origin.ensures (small_axis (origin_at c.args.table.now k) o);
+      theta_value_2 = rw c.origin_in.ensures (small_axis (origin_at c.args.table.now k) o);
       sine_value = c.sin_inside-sine.ensures;
     }
 
@@ -30,12 +29,12 @@ loop-k-preserved c =
     let hs = haversines ieee a.table.now p in
     let count = haversine_count ieee a.table.now p in
     let here = haversine_at ieee a.table.now p v.k (omega arith) in
-    let d = rw c.origin_in-origin.ensures at c.haversine_by.ensures in
-    (omega arith, simp length-set v.invariant.1, filled_on hs v.distances v.k _ nan (omega arith) (omega arith) v.invariant.2 (d ∙ sym here))
+    let d = rw c.origin_in.ensures at c.haversine_by.ensures in
+    (simp length-set v.invariant.0, filled_on hs v.distances v.k _ nan (omega arith) (omega arith) v.invariant.1 (d ∙ sym here))
 
 pub returns : goal.returns
 returns c =
     let v = c.loop-k in
     let a = c.args in
     let count = haversine_count ieee a.table.now a.point in
-    filled_all (haversines ieee a.table.now a.point) v.distances v.k (omega arith) (omega arith) v.invariant.2
+    filled_all (haversines ieee a.table.now a.point) v.distances v.k (omega arith) (omega arith) v.invariant.1

@@ -1,26 +1,20 @@
 -- `sin_inside` meets its contract. Assumes nothing.
 use mathlib.Core.Path.{◌≡◌, sym, ap, ◌∙◌}
 use mathlib.Core.Bool.{true}
-use borrow.Author.Tests.{not-true, not-false}
+use lib.Ieee.{of_bits}
 use Rattle.answer.specs.Number.{is_finite}
 use Rattle.elementary.specs.declared.sine.SinCos.{SinCos}
 use Rattle.elementary.specs.Sine.{sin}
-use Rattle.float_parts.proofs.SignBit.{zero_by_zero}
 use Rattle.elementary.proofs.Quarters.{otherwise_nan, by_turns}
-use Rattle.sine_inside.proofs.sin_inside.Lts as lts
-use Rattle.sine_inside.proofs.sin_inside.Reads as reads
-use Rattle.sine_inside.proofs.sin_inside.Tie as tie
 use Rattle.sine_inside.proofs.sin_inside.Goals as goal
-
-abbrev Else-not-is_finite : Type 0
-Else-not-is_finite = lts.Else1 tie.the-claims reads.Pre reads.Post tie.handed_clauses
+use Rattle.sine_inside.proofs.sin_inside.Goals.{Else-not-is_finite}
 
 pub returns-then-not-is_finite : goal.returns-then-not-is_finite
-unfolding sin
-returns-then-not-is_finite c = zero_by_zero ∙ sym (ap (λ (p : SinCos). p.sin) (otherwise_nan _ (sym c.is_finite.ensures ∙ not-true _ c.if-not-is_finite.true-raw)))
+unfolding of_bits sin
+returns-then-not-is_finite c = sym (ap (λ (p : SinCos). p.sin) (otherwise_nan _ (sym c.is_finite.ensures ∙ c.if-not-is_finite.true)))
 
 finite : (c : Else-not-is_finite) → is_finite c.args.x ≡ true
-finite c = sym c.is_finite.ensures ∙ not-false _ c.if-not-is_finite.false-raw
+finite c = sym c.is_finite.ensures ∙ c.if-not-is_finite.false
 
 pub returns : goal.returns
 unfolding sin

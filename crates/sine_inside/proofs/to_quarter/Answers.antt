@@ -6,5 +6,5 @@ use Rattle.sine_inside.proofs.to_quarter.Goals as goal
 pub returns : goal.returns
 unfolding reduced
 returns c =
-    let t = c.quarters-t in
-    reduced_pair c.args.y (rw c.well_formed.0.1 tt) c.requires t.result.n t.result.quarter t.ensures.n_is t.ensures.quarter_is
+    let t = c.quarters-n in
+    reduced_pair c.args.y (rw c.well_formed.0.1 tt) c.requires t.result.0 t.result.1 t.ensures.n_is t.ensures.quarter_is
