@@ -15,6 +15,7 @@ const PI: f64 = 3.141592653589793;
 const FRAC_PI_2: f64 = 1.5707963267948966;
 
 // The angle of a tangent that is not negative.
+#[tactic(auto, unfolding(elementary::specs::Arctangent::atan_size))]
 fn atan_size(a: f64) -> f64
     ensures { result ≡ atan_size ieee a }
 {
@@ -26,6 +27,7 @@ fn atan_size(a: f64) -> f64
 }
 
 // x with the sign that a set or clear sign bit stands for. Std's copysign takes no NaN for the sign, and compares x with 0 first.
+#[tactic(auto, unfolding(float_parts::specs::Signs::with_sign))]
 fn with_sign(negative: bool, x: f64) -> f64
     ensures { result ≡ with_sign negative x }
 {

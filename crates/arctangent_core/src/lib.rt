@@ -34,6 +34,7 @@ const CORE_REST: [f64; 12] = [
 ];
 
 // The tangent of half the angle whose tangent is t.
+#[tactic(auto, unfolding(elementary::specs::Arctangent::halved))]
 fn halved(t: f64) -> f64
     ensures { result ≡ halved ieee t }
 {
@@ -41,6 +42,7 @@ fn halved(t: f64) -> f64
 }
 
 // Both halved, their roots found together.
+#[tactic(auto, unfolding(elementary::specs::Arctangent::halved))]
 fn halved_both(t: f64, u: f64) -> (f64, f64)
     ensures { (result.0 ≡ halved ieee t) × (result.1 ≡ halved ieee u) }
 {
@@ -56,6 +58,7 @@ fn from_quarter(t: f64) -> f64
 }
 
 // The angle in 0..π/4 whose tangent is t, in 0..1; by the same steps for every other t.
+#[tactic(auto, unfolding(elementary::specs::Arctangent::core))]
 pub fn core(t: f64) -> f64
     ensures { result ≡ core ieee t }
 {
@@ -63,6 +66,7 @@ pub fn core(t: f64) -> f64
 }
 
 // Both angles, in about the time of one.
+#[tactic(auto, unfolding(elementary::specs::Arctangent::core))]
 pub fn core_both(t: f64, u: f64) -> (f64, f64)
     ensures { (result.0 ≡ core ieee t) × (result.1 ≡ core ieee u) }
 {
@@ -79,6 +83,7 @@ pub struct AngleAndRoot {
 }
 
 // The angle, and beside its first root that of x.
+#[tactic(auto, unfolding(elementary::specs::Arctangent::core, elementary::specs::Arctangent::halved))]
 pub fn core_and_sqrt(t: f64, x: f64) -> AngleAndRoot
     ensures { (result.angle ≡ core ieee t) × (result.root ≡ sqrt x) }
 {

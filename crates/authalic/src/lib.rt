@@ -27,6 +27,7 @@ const AUTHALIC_TO_GEODETIC: [f64; 6] = [
 ];
 
 // The five steps of the Rust, the second with the "- c[5]" that it lacks there.
+#[tactic(auto, unfolding(coordinates::specs::Authalic::apply_coefficients))]
 fn apply_coefficients(phi: Radians, c: [f64; 6]) -> Radians
     requires { outside phi.0 ≡ false }
     ensures { result ≡ apply_coefficients ieee phi c }
@@ -46,6 +47,7 @@ fn apply_coefficients(phi: Radians, c: [f64; 6]) -> Radians
 }
 
 // Geodetic to authalic.
+#[tactic(auto, unfolding(coordinates::specs::Authalic::authalic_forward))]
 pub fn forward(phi: Radians) -> Radians
     requires { outside phi.0 ≡ false }
     ensures { result ≡ authalic_forward ieee phi }
@@ -54,6 +56,7 @@ pub fn forward(phi: Radians) -> Radians
 }
 
 // Authalic to geodetic.
+#[tactic(auto, unfolding(coordinates::specs::Authalic::authalic_inverse))]
 pub fn inverse(phi: Radians) -> Radians
     requires { outside phi.0 ≡ false }
     ensures { result ≡ authalic_inverse ieee phi }

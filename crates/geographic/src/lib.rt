@@ -19,6 +19,7 @@ const PI: f64 = 3.141592653589793;
 const FRAC_PI_2: f64 = 1.5707963267948966;
 
 // Degrees as radians.
+#[tactic(auto, unfolding(coordinates::specs::CoordinateTransforms::deg_to_rad))]
 pub fn deg_to_rad(deg: Degrees) -> Radians
     ensures { result ≡ deg_to_rad ieee deg }
 {
@@ -26,6 +27,7 @@ pub fn deg_to_rad(deg: Degrees) -> Radians
 }
 
 // Radians as degrees.
+#[tactic(auto, unfolding(coordinates::specs::CoordinateTransforms::rad_to_deg))]
 pub fn rad_to_deg(rad: Radians) -> Degrees
     ensures { result ≡ rad_to_deg ieee rad }
 {
@@ -36,6 +38,7 @@ pub fn rad_to_deg(rad: Radians) -> Degrees
 const LONGITUDE_OFFSET: f64 = 93.0;
 
 // The conversion without its checks.
+#[tactic(auto, unfolding(coordinates::specs::CoordinateTransforms::from_lon_lat))]
 pub fn from_lon_lat(lonlat: LonLat) -> Spherical
     requires { outside (deg_to_rad ieee lonlat.latitude).0 ≡ false }
     ensures { result ≡ from_lon_lat ieee lonlat }
@@ -51,6 +54,7 @@ pub fn from_lon_lat(lonlat: LonLat) -> Spherical
 }
 
 // A longitude in [-180, 180).
+#[tactic(auto, unfolding(coordinates::specs::CoordinateTransforms::normalize_longitude))]
 pub fn normalize_longitude(lon: Degrees) -> Degrees
     ensures { result ≡ normalize_longitude ieee lon }
 {
@@ -59,6 +63,7 @@ pub fn normalize_longitude(lon: Degrees) -> Degrees
 }
 
 // The conversion without its checks.
+#[tactic(auto, unfolding(elementary::specs::Constants::FRAC_PI_2, coordinates::specs::CoordinateTransforms::to_lon_lat))]
 pub fn to_lon_lat(spherical: Spherical) -> LonLat
     requires { outside (sub binary64 the_frac_pi_2 spherical.phi.0) ≡ false }
     ensures { result ≡ to_lon_lat ieee spherical }

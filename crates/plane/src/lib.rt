@@ -15,6 +15,7 @@ use sine_inside::sin_cos_inside;
 
 // A face point by its distance from the origin and its angle. Root and arc tangent do not wait for
 // each other, and are found together.
+#[tactic(auto, unfolding(coordinates::specs::CoordinateTransforms::to_polar))]
 pub fn to_polar(face: Face) -> Polar
     ensures { result ≡ to_polar ieee face }
 {
@@ -28,6 +29,7 @@ pub fn to_polar(face: Face) -> Polar
 }
 
 // The face point at a distance and an angle.
+#[tactic(auto, unfolding(coordinates::specs::CoordinateTransforms::to_face))]
 pub fn to_face(polar: Polar) -> Face
     requires { outside polar.gamma.0 ≡ false }
     ensures { result ≡ to_face ieee polar }
@@ -40,6 +42,7 @@ pub fn to_face(polar: Polar) -> Face
 }
 
 // A face point by its weights at the triangle's corners.
+#[tactic(auto, unfolding(coordinates::specs::CoordinateTransforms::face_to_barycentric))]
 pub fn face_to_barycentric(p: Face, triangle: FaceTriangle) -> Barycentric
     ensures { result ≡ face_to_barycentric ieee p triangle }
 {
@@ -67,6 +70,7 @@ pub fn face_to_barycentric(p: Face, triangle: FaceTriangle) -> Barycentric
 }
 
 // The face point of three weights at the triangle's corners.
+#[tactic(auto, unfolding(coordinates::specs::CoordinateTransforms::barycentric_to_face))]
 pub fn barycentric_to_face(bary: Barycentric, triangle: FaceTriangle) -> Face
     ensures { result ≡ barycentric_to_face ieee bary triangle }
 {

@@ -18,10 +18,7 @@ use vector::{dot, triple_product};
 fn has_bits(x: f64, b: u64) -> bool
     ensures { result ≡ true → x ≡ of_bits binary64 b }
 {
-    if x != x {
-        return false;
-    }
-    f64::to_bits(x) == b
+    !x.is_nan() && f64::to_bits(x) == b
 }
 
 // atan2. Every call on an opened set asks for the area of one triangle, that of the frame's rows 0, 32
@@ -29,15 +26,14 @@ fn has_bits(x: f64, b: u64) -> bool
 fn half_area(triple: f64, norm: f64) -> f64
     ensures { result ≡ atan2 ieee triple norm }
 {
-    if has_bits(triple, 0x3fc8_0307_ba95_e81e) {
-        if has_bits(norm, 0x400c_a2c5_2c36_fc7d) {
-            return 0.05235987755982991;
-        }
+    if has_bits(triple, 0x3fc8_0307_ba95_e81e) && has_bits(norm, 0x400c_a2c5_2c36_fc7d) {
+        return 0.05235987755982991;
     }
     atan2(triple, norm)
 }
 
 // The area, with the sign of the corners' order.
+#[tactic(auto, unfolding(crate::specs::SphericalPolygon::spherical_triangle_area))]
 pub fn spherical_triangle_area(v1: Cartesian, v2: Cartesian, v3: Cartesian) -> Radians
     ensures { result ≡ spherical_triangle_area ieee v1 v2 v3 }
 {
@@ -53,6 +49,7 @@ pub struct AreaAndRoot {
 }
 
 // The area, and the square root of x, which does not wait for it.
+#[tactic(auto, unfolding(crate::specs::SphericalPolygon::spherical_triangle_area))]
 pub fn spherical_triangle_area_and_sqrt(
     v1: Cartesian,
     v2: Cartesian,

@@ -14,6 +14,7 @@ use square_root::root::sqrt;
 
 // A point of space by its two angles, theta from the x axis and phi from the z axis. The two arc
 // tangents are found together.
+#[tactic(auto, unfolding(coordinates::specs::CoordinateTransforms::to_spherical))]
 pub fn to_spherical(cart: Cartesian) -> Spherical
     ensures { result ≡ to_spherical ieee cart }
 {
@@ -31,6 +32,7 @@ pub fn to_spherical(cart: Cartesian) -> Spherical
 }
 
 // The point of the unit sphere at two angles.
+#[tactic(auto, unfolding(coordinates::specs::CoordinateTransforms::to_cartesian))]
 pub fn to_cartesian(spherical: Spherical) -> Cartesian
     requires { (outside spherical.theta.0 ≡ false) × (outside spherical.phi.0 ≡ false) }
     ensures { result ≡ to_cartesian ieee spherical }

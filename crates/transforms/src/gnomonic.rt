@@ -9,6 +9,7 @@ use coordinates::polar::Polar;
 use coordinates::spherical::Spherical;
 
 // A direction to the plane's polar coordinates.
+#[tactic(auto, unfolding(coordinates::specs::Gnomonic::gnomonic_forward))]
 pub fn forward(spherical: Spherical) -> Polar
     requires { outside spherical.phi.0 ≡ false }
     ensures { result ≡ gnomonic_forward ieee spherical }
@@ -21,6 +22,7 @@ pub fn forward(spherical: Spherical) -> Polar
 }
 
 // Polar coordinates of the plane to a direction.
+#[tactic(auto, unfolding(coordinates::specs::Gnomonic::gnomonic_inverse))]
 pub fn inverse(polar: Polar) -> Spherical
     ensures { result ≡ gnomonic_inverse ieee polar }
 {

@@ -9,6 +9,7 @@ use coordinates::coords::Cartesian;
 use coordinates::vec3::Vec3;
 
 // a · (b × c)
+#[tactic(auto, unfolding(coordinates::specs::Vector::triple_product))]
 pub fn triple_product(a: Cartesian, b: Cartesian, c: Cartesian) -> f64
     ensures { result ≡ triple_product ieee a b c }
 {
@@ -18,6 +19,7 @@ pub fn triple_product(a: Cartesian, b: Cartesian, c: Cartesian) -> f64
 }
 
 // The vector's length.
+#[tactic(auto, unfolding(coordinates::specs::Vector::length))]
 pub fn length(v: Cartesian) -> f64
     ensures { result ≡ length ieee v }
 {
@@ -25,6 +27,7 @@ pub fn length(v: Cartesian) -> f64
 }
 
 // a - b
+#[tactic(auto, unfolding(coordinates::specs::Vector::subtract))]
 pub fn subtract(a: Cartesian, b: Cartesian) -> Cartesian
     ensures { result ≡ subtract ieee a b }
 {
@@ -36,6 +39,7 @@ pub fn subtract(a: Cartesian, b: Cartesian) -> Cartesian
 }
 
 // The distance of two points.
+#[tactic(auto, unfolding(coordinates::specs::Vector::vec3_distance))]
 pub fn vec3_distance(a: Cartesian, b: Cartesian) -> f64
     ensures { result ≡ vec3_distance ieee a b }
 {
@@ -43,6 +47,7 @@ pub fn vec3_distance(a: Cartesian, b: Cartesian) -> f64
 }
 
 // a · b
+#[tactic(auto, unfolding(coordinates::specs::Vector::dot))]
 pub fn dot(a: Cartesian, b: Cartesian) -> f64
     ensures { result ≡ dot ieee a b }
 {
@@ -50,6 +55,7 @@ pub fn dot(a: Cartesian, b: Cartesian) -> f64
 }
 
 // a × b
+#[tactic(auto, unfolding(coordinates::specs::Vector::cross))]
 pub fn cross(a: Cartesian, b: Cartesian) -> Cartesian
     ensures { result ≡ cross ieee a b }
 {
@@ -61,6 +67,7 @@ pub fn cross(a: Cartesian, b: Cartesian) -> Cartesian
 }
 
 // The vector of length 1 in the same direction; a zero vector stays.
+#[tactic(auto, unfolding(coordinates::specs::Vector::normalize))]
 pub fn normalize(v: Cartesian) -> Cartesian
     ensures { result ≡ normalize ieee v }
 {
@@ -76,6 +83,7 @@ pub fn normalize(v: Cartesian) -> Cartesian
 }
 
 // v * s
+#[tactic(auto, unfolding(coordinates::specs::Vector::scale))]
 pub fn scale(v: Cartesian, s: f64) -> Cartesian
     ensures { result ≡ scale ieee v s }
 {
@@ -87,6 +95,7 @@ pub fn scale(v: Cartesian, s: f64) -> Cartesian
 }
 
 // a + b * s
+#[tactic(auto, unfolding(coordinates::specs::Vector::scale_and_add))]
 pub fn scale_and_add(a: Cartesian, b: Cartesian, s: f64) -> Cartesian
     ensures { result ≡ scale_and_add ieee a b s }
 {

@@ -3,11 +3,7 @@ use mathlib.Core.Path.{sym, ap, ◌∙◌}
 use lib.Ieee.{binary64, of_bits}
 use lib.Ieee.Bits.{of_bits-to_bits}
 use borrow.Author.Tests.{eqb-true}
-use Rattle.answer.proofs.NotANumber.{is_number}
 use Rattle.spherical_polygon.proofs.has_bits.Goals as goal
 
-pub float_to_bits-result : goal.float_to_bits-result
-float_to_bits-result c = is_number c.args.x c.if-x.false
-
-pub returns : goal.returns
-returns c e = sym (of_bits-to_bits binary64 c.args.x (rw c.well_formed.0.1 tt)) ∙ ap (of_bits binary64) (eqb-true _ _ e)
+pub returns-then-not-is_nan : goal.returns-then-not-is_nan
+returns-then-not-is_nan c e = sym (of_bits-to_bits binary64 c.args.x (rw c.well_formed.0.1 tt)) ∙ ap (of_bits binary64) (eqb-true _ _ e)

@@ -1,7 +1,0 @@
--- `quaternion::transform_quat` meets its contract. Assumes nothing.
-use Rattle.origin.specs.Quaternion.{transform_quat}
-use Rattle.quaternion.proofs.transform_quat.Goals as goal
-
-pub returns : goal.returns
-unfolding transform_quat
-returns c = rw c.quat_conjugate-conj.ensures
