@@ -42,6 +42,9 @@ module _ (k : ℕ) (r : Float) where
       go (suc (suc zero)) a b c = absurd (c refl)
       go (suc (suc (suc j))) a b c = unfold sin_cos_reduced in refl
 
+-- the four of them
+pub ruleset turned = (after_0, after_1, after_2, after_3)
+
 module _ (x : Float) where
   pub otherwise_nan : is_finite x ≡ false → sin_cos ieee x ≡ record { sin = nan; cos = nan }
   otherwise_nan = go x

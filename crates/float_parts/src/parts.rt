@@ -10,6 +10,7 @@ pub struct Parts {
 }
 
 // The parts of a pattern. They say something of its value where it has no sign and is finite.
+#[tactic(auto, unfolding(crate::specs::Parts::digits, crate::specs::Parts::places))]
 pub fn split(b: u64) -> Parts
     ensures { (result.m ≡ digits b) × (result.h ≡ places b) }
 {

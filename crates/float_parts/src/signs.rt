@@ -13,6 +13,7 @@ pub fn abs(x: f64) -> f64
 }
 
 // x where it is above 0, else +0, also for a NaN. Std's max may answer either zero where x is -0.
+#[tactic(auto, unfolding(crate::specs::Signs::max_zero))]
 pub fn max_zero(x: f64) -> f64
     ensures { result ≡ max_zero x }
 {

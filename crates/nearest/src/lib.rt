@@ -113,6 +113,7 @@ fn least(distances: &[f64; 12]) -> u8
 }
 
 // The lowest-numbered origin with the least haversine, without the checks of the call.
+#[tactic(auto, unfolding(crate::specs::Nearest::nearest_origin))]
 pub fn find_nearest_origin(point: Spherical) -> u8
     requires { (outside point.theta.0 ≡ false) × (outside point.phi.0 ≡ false) }
     ensures { result ≡ nearest_origin ieee ORIGINS point }
@@ -136,6 +137,7 @@ fn haversines_in(table: &[f64; 84], point: Spherical) -> [f64; 12]
 }
 
 // The lowest-numbered origin of a table with the least haversine, without the checks of the call.
+#[tactic(auto, unfolding(crate::specs::Nearest::nearest_origin))]
 pub fn find_nearest_in(table: &[f64; 84], point: Spherical) -> u8
     requires table_value { numbers_sound table.now ≡ true }
     requires theta_value { (outside point.theta.0 ≡ false) × (outside point.phi.0 ≡ false) }

@@ -55,51 +55,46 @@ fn cosine_series(z: f64) -> f64
 }
 
 // The sine after k quarter turns and r: only the series that it needs.
+#[tactic(auto, using(elementary::proofs::Quarters::turned))]
 pub fn sin_at(k: u64, r: f64) -> f64
     ensures { result ≡ (sin_cos_reduced ieee k r).sin }
 {
     let z = r * r;
-    if k == 0 {
-        sine_series(r, z)
-    } else if k == 1 {
-        cosine_series(z)
-    } else if k == 2 {
-        -sine_series(r, z)
-    } else {
-        -cosine_series(z)
+    match k {
+        0 => sine_series(r, z),
+        1 => cosine_series(z),
+        2 => -sine_series(r, z),
+        _ => -cosine_series(z),
     }
 }
 
 // The cosine after k quarter turns and r.
+#[tactic(auto, using(elementary::proofs::Quarters::turned))]
 pub fn cos_at(k: u64, r: f64) -> f64
     ensures { result ≡ (sin_cos_reduced ieee k r).cos }
 {
     let z = r * r;
-    if k == 0 {
-        cosine_series(z)
-    } else if k == 1 {
-        -sine_series(r, z)
-    } else if k == 2 {
-        -cosine_series(z)
-    } else {
-        sine_series(r, z)
+    match k {
+        0 => cosine_series(z),
+        1 => -sine_series(r, z),
+        2 => -cosine_series(z),
+        _ => sine_series(r, z),
     }
 }
 
 // The pair after k quarter turns and r.
+#[tactic(auto, using(elementary::proofs::Quarters::turned))]
 pub fn sin_cos_at(k: u64, r: f64) -> SinCos
     ensures { result ≡ sin_cos_reduced ieee k r }
 {
     let z = r * r;
     let s = sine_series(r, z);
     let c = cosine_series(z);
-    if k == 0 {
-        SinCos { sin: s, cos: c }
-    } else if k == 1 {
-        SinCos { sin: c, cos: -s }
-    } else if k == 2 {
-        SinCos { sin: -s, cos: -c }
-    } else {
-        SinCos { sin: -c, cos: s }
-    }
+    let (sin, cos) = match k {
+        0 => (s, c),
+        1 => (c, -s),
+        2 => (-s, -c),
+        _ => (-c, s),
+    };
+    SinCos { sin, cos }
 }
