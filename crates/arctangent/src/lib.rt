@@ -35,6 +35,7 @@ fn with_sign(negative: bool, x: f64) -> f64
 }
 
 // The angle whose tangent is x, from -π/2 to π/2.
+#[tactic(auto, using(elementary::proofs::Angles::atan_is))]
 pub fn atan(x: f64) -> f64
     ensures { result ≡ atan ieee x }
 {
@@ -42,6 +43,7 @@ pub fn atan(x: f64) -> f64
 }
 
 // The tangent whose angle atan2 takes from core: the smaller size by the larger.
+#[tactic(auto, using(elementary::proofs::Angles::tangent_low, elementary::proofs::Angles::tangent_high))]
 fn tangent(y: f64, x: f64) -> f64
     ensures { result ≡ tangent ieee (abs y) (abs x) }
 {
@@ -51,6 +53,7 @@ fn tangent(y: f64, x: f64) -> f64
 }
 
 // The angle of the point (b, a), neither negative, from that of its tangent.
+#[tactic(auto, using(elementary::proofs::Angles::bases), unfolding(elementary::specs::Constants::FRAC_PI_2))]
 fn atan2_base(a: f64, b: f64, angle: f64) -> f64
     requires { angle ≡ core ieee (tangent ieee a b) }
     ensures { result ≡ atan2_base ieee a b }
@@ -62,6 +65,7 @@ fn atan2_base(a: f64, b: f64, angle: f64) -> f64
 }
 
 // The angle of the point (x, y), from that of its sizes' tangent.
+#[tactic(auto, using(elementary::proofs::Angles::atan2s), unfolding(elementary::specs::Constants::PI))]
 fn atan2_from(y: f64, x: f64, angle: f64) -> f64
     requires { angle ≡ core ieee (tangent ieee (abs y) (abs x)) }
     ensures { result ≡ atan2 ieee y x }

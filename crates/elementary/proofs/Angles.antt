@@ -65,3 +65,8 @@ module _ (y x : Float) where
     pub atan2_right : negative x ≡ false → atan2 ieee y x ≡ with_sign (negative y) (atan2_base ieee (abs y) (abs x))
     unfolding atan2
     atan2_right e = rw (f, atan2) (rw e)
+
+-- the cases of atan2's base, and those of atan2
+pub ruleset bases = (and_first, and_then, base_zero, base_low, base_high)
+
+pub ruleset atan2s = (and_first, and_then, atan2_nan, atan2_left, atan2_right)

@@ -1,5 +1,6 @@
 // The origin nearest to a point: of the built-in table, or of another. The calls, with their checks,
-// are crate `nearest_calls`.
+// are crate `nearest_calls`. That a point's angles are not outside is asked by each function and is no type's: a type of such points
+// would be built and taken apart beside `Spherical`, in each caller, by the proof that the clause asks.
 #![tactic(auto)]
 
 ghost use Rattle.std.specs.Prelude.{◌≡◌, true, false};

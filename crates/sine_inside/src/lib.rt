@@ -1,5 +1,6 @@
 // Sine, cosine and tangent of an argument that is proved not to be outside: finite numbers beyond ±64
-// are (Paper 7). An angle is reduced to what is left of it after quarter turns.
+// are (Paper 7). An angle is reduced to what is left of it after quarter turns. That x is not outside is asked of each call and is
+// no type's: nearly every argument is a sum or a quotient made for the call, which would have to build that type and owe the same proof.
 #![tactic(auto)]
 
 ghost use Rattle.std.specs.Prelude.{◌≡◌, true, false};
@@ -24,6 +25,7 @@ const FRAC_PI_2: f64 = 1.5707963267948966;
 const PI_2_REST: f64 = 6.123233995736766e-17;
 
 // x mod one turn. A value within a turn is its own, which spares the call.
+#[tactic(auto, using(elementary::proofs::Turn::left_within, elementary::proofs::Turn::within_own), unfolding(elementary::specs::Constants::TAU))]
 fn within_turn(x: f64) -> f64
     requires { is_finite x ≡ true }
     ensures left { result ≡ rem binary64 x the_tau }
@@ -70,6 +72,7 @@ struct Angle {
 
 // Of an angle within a turn. The turns are taken off by each caller and not in here, since this is
 // to be small enough for the compiler to put it into the callers: a call costs 2 ns.
+#[tactic(auto, using(elementary::proofs::Quarters::reduced_pair), unfolding(elementary::specs::Sine::reduced))]
 fn to_quarter(y: f64) -> Angle
     requires { lt (abs y) the_tau ≡ true }
     ensures { sin_cos_reduced ieee result.quarter result.r ≡ sin_cos ieee y }
