@@ -1,12 +1,12 @@
 -- The search for the least, one number further: what is left, from here, gives the whole. Assumes nothing.
 use mathlib.Core.Path.{◌≡◌, refl, sym, ap, ◌∙◌}
 use mathlib.Core.Bool.{true, false}
-use mathlib.Core.List.{List, [], ◌∷◌}
-use Prim.Native.Nat.{ℕ, zero, suc, ◌+◌, ◌≤◌, ◌<◌}
+use mathlib.Core.List.{List, ◌∷◌}
+use Prim.Native.Nat.{ℕ, ◌+◌, ◌≤◌, ◌<◌}
 use native.Mathlib.Numerals.{add-one}
-use native.Mathlib.Omega.{arith}
 use lib.ListN.{length, get_or, drop}
 use lib.Seq.{drop-cons}
+use Rattle.std.proofs.lemmas.List.{drop_all}
 use lib.Ieee.{Float, nan, lt}
 use Rattle.nearest.specs.Nearest.{least_from}
 
@@ -23,10 +23,4 @@ module _ (hs : List Float) (i : ℕ) (d : Float) (b : ℕ) (h : i < length hs) w
   not_less e = taken ∙ rw (e, least_from) (rw (add-one i))
 
 pub at_end : (hs : List Float) (i : ℕ) (d : Float) (b : ℕ) → length hs ≤ i → least_from i (drop i hs) d b ≡ b
-at_end hs i d b h = ap (λ (l : List Float). least_from i l d b) (none hs i h) ∙ unfold least_from in refl
-  where
-    none : (l : List Float) (k : ℕ) → length l ≤ k → drop k l ≡ []
-    none [] zero h = refl
-    none [] (suc k) h = refl
-    none (x ∷ xs) zero h = absurd (omega arith)
-    none (x ∷ xs) (suc k) h = none xs k (omega arith)
+at_end hs i d b h = ap (λ (l : List Float). least_from i l d b) (drop_all i hs h) ∙ unfold least_from in refl
