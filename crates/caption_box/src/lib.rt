@@ -10,7 +10,8 @@ use answer::Refusal;
 use coordinates::conversions::check_face;
 use coordinates::coords::Face;
 
-// The least and greatest coordinates taken in. Where it is empty the four sides mean nothing.
+// The least and greatest coordinates taken in. Where it is empty the four sides mean nothing. C reads
+// the struct as it lies: so a flag beside the sides, and no Option.
 #[repr(C)]
 #[derive(Clone, Copy)]
 pub struct CaptionBox {

@@ -20,7 +20,8 @@ pub struct State {
 }
 
 // The kept strikes lie in the first two arrays from place `first` on, oldest first, and place 0 follows place 4,095.
-// `counts` has how many of them each origin has.
+// `counts` has how many of them each origin has. C reads the struct as it lies: so two arrays side by side, and no array of
+// strikes.
 #[repr(C)]
 #[derive(Drop)]
 pub struct Window {

@@ -5,7 +5,8 @@
 ghost use Rattle.std.specs.Prelude.{◌≡◌, ◌%◌};
 ghost use Rattle.window_ring.specs.Ring.{lower, raise, remain, lowered};
 
-// Counts one less for an origin.
+// Counts one less for an origin. It and `raise_count` share a test alone: one function that takes the
+// step as a closure, with its clauses, is longer than both.
 #[tactic(auto, unfolding(crate::specs::Ring::lower))]
 fn lower_count(counts: &mut [u32; 12], origin: u8)
     ensures { counts.new ≡ lower counts.old origin }
