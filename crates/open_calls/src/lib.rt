@@ -14,7 +14,11 @@ use set::checks::check_with;
 use set::set::check_set;
 
 // Opens a set with the built-in table, which needs no check, or refuses with 1, 2, 3 or 7.
-pub fn open(frame: &mut [f64], face_store: &mut [f64], sphere_store: &mut [f64]) -> Result<(), Refusal>
+pub fn open(
+    frame: &mut [f64],
+    face_store: &mut [f64],
+    sphere_store: &mut [f64],
+) -> Result<(), Refusal>
     ensures { Leaves (lent_mut frame face_store sphere_store) (given result) (open_on ieee ORIGINS) }
 {
     check_set(frame, face_store, sphere_store)?;

@@ -20,7 +20,11 @@ use triangles::triangles::{corner_vertex, read_sphere, read_vector, take_face};
 use vector::cross;
 
 // compute_spherical_triangle: the three corners looked up; 8 where one has no row.
-fn build_sphere(frame: &[f64], origin: Origin, t: FaceTriangle) -> Result<SphericalTriangle, Refusal>
+fn build_sphere(
+    frame: &[f64],
+    origin: Origin,
+    t: FaceTriangle,
+) -> Result<SphericalTriangle, Refusal>
     requires { beyond 8·0 origin.angle.0 ≡ false }
     ensures { given result ≡ sphere_built ieee frame.now origin t }
 {

@@ -15,7 +15,7 @@ pub returns : goal.returns
 unfolding check_number
 returns c =
     elim c.else-limit-x.branch [
-      else-limit-x-via-then-limit-x+else-x-limit w ↦
-        simp (← c.is_finite.ensures, c.if-not-is_finite.false, w.if-limit-x.true, w.if-x-limit.false)
-    | else-limit-x-via-else-limit-x w ↦ simp (← c.is_finite.ensures, c.if-not-is_finite.false, w.if-limit-x.false)
+      | else-limit-x-via-then-limit-x+else-x-limit w ↦
+          simp (← c.is_finite.ensures, c.if-not-is_finite.false, w.if-limit-x.true, w.if-x-limit.false)
+      | else-limit-x-via-else-limit-x w ↦ simp (← c.is_finite.ensures, c.if-not-is_finite.false, w.if-limit-x.false)
     ]
