@@ -2,7 +2,7 @@
 use mathlib.Core.Path.{◌≡◌, refl, sym, ap, subst, ◌∙◌}
 use mathlib.Core.Bool.{Bool, true, false}
 use mathlib.Core.List.{List, [], ◌∷◌}
-use Prim.Native.Nat.{ℕ, zero, suc, ◌+◌, ◌*◌, ◌-◌, ◌/◌, ◌≤◌, ◌<◌, min, zero-le}
+use Prim.Native.Nat.{ℕ, zero, suc, ◌+◌, ◌-◌, ◌/◌, ◌≤◌, ◌<◌, min, zero-le}
 use native.Mathlib.Nat.{zero-min, min-zero, suc-min-suc, le_trans, min-le_left, min-le_right}
 use native.Mathlib.Omega.{arith}
 use borrow.Author.Tests.{lt-ltb, le-ltb, ltb-true, ltb-false}
@@ -12,7 +12,7 @@ use lib.ListN.{length, take, drop, length-drop}
 use lib.Seq.{take_all}
 use Rattle.arithmetic.specs.Arith.{Arith}
 use Rattle.set.specs.Set.{Set}
-use Rattle.strike_records.specs.Line.{LINE, refusal_line}
+use Rattle.strike_records.specs.Line.{LINE}
 use Rattle.strike_records.specs.Record.{headed}
 use Rattle.strike_records.proofs.Fits.{refusal_fits}
 use Rattle.strike_answers.proofs.Replies.{lines_fit}
@@ -42,14 +42,6 @@ module _ {n : ℕ} (stage : Stage) (k : ℕ) (at : stage ≡ Records n) where
       none : (n : ℕ) → end_line (Records n) 0 ≡ []
       none zero = refl
       none (suc n) = refl
-
-  pub inside_record : (n ≡ 0 → ⊥) → (k ≡ 0 → ⊥) → end_line stage k ≡ refusal_line 13
-  inside_record p q = rw at (cut n k p q)
-    where
-      cut : (n k : ℕ) → (n ≡ 0 → ⊥) → (k ≡ 0 → ⊥) → end_line (Records n) k ≡ refusal_line 13
-      cut zero k p q = absurd (p refl)
-      cut (suc n) zero p q = absurd (q refl)
-      cut (suc n) (suc k) p q = refl
 
 -- ---- feeding at the header, case by case
 module _ (A : Arith) (table : List Float) (s : Set) (bytes : List ℕ) (room : ℕ) where

@@ -1,6 +1,7 @@
 // A session on slices. The caller keeps the bytes that were not taken, and lends them again
 // with what arrives next behind them: how the input is cut changes nothing.
 ghost use Rattle.std.specs.Prelude.{◌≡◌};
+ghost use Rattle.answer.specs.Answer.{number_of};
 ghost use Rattle.set.specs.Outcome.{lent_mut};
 ghost use Rattle.strike_records.specs.Line.{refusal_line};
 ghost use Rattle.strike_records.specs.Writes.{lent_bytes};
@@ -8,7 +9,6 @@ ghost use Rattle.strike_session.specs.Pieces.{end_line, over};
 ghost use Rattle.strike_session.specs.Results.{WritesIfRoom, Opens};
 
 use answer::Refusal;
-use set::open::OpenAnswer;
 use strike_records::line::{LINE, write_refusal};
 
 // The records that are still taken, after the header; a stopped session takes nothing more.
@@ -53,25 +53,25 @@ pub fn begin(
     ensures { Opens (lent_mut frame face_store sphere_store) (lent_bytes out) result }
 {
     match open_calls::open(frame, face_store, sphere_store) {
-        OpenAnswer::Opened => Begun {
+        Ok(()) => Begun {
             stage: Stage::Header,
             written: 0,
         },
-        OpenAnswer::Refused(n) => Begun {
+        Err(refusal) => Begun {
             stage: Stage::Stopped,
-            written: write_fitting(out, answer::number(n)),
+            written: write_fitting(out, refusal),
         },
     }
 }
 
 // A refusal's line, where there is room for a line.
-fn write_fitting(out: &mut [u8], number: u8) -> usize
-    ensures { WritesIfRoom (lent_bytes out) (refusal_line number) result }
+fn write_fitting(out: &mut [u8], refusal: Refusal) -> usize
+    ensures { WritesIfRoom (lent_bytes out) (refusal_line (number_of refusal)) result }
 {
     if out.len() < LINE {
         return 0;
     }
-    write_refusal(out, 0, number)
+    write_refusal(out, 0, refusal.number())
 }
 
 // The input's end, with so many bytes that were not taken.
@@ -79,17 +79,9 @@ pub fn finish(stage: Stage, kept: usize, out: &mut [u8]) -> usize
     ensures { WritesIfRoom (lent_bytes out) (end_line stage kept) result }
 {
     match stage {
-        Stage::Header => write_fitting(out, answer::number(Refusal::Header)),
-        Stage::Records(left) => {
-            if left == 0 {
-                return 0;
-            }
-            if kept == 0 {
-                return 0;
-            }
-            write_fitting(out, answer::number(Refusal::CutOff))
-        }
-        Stage::Stopped => 0,
+        Stage::Header => write_fitting(out, Refusal::Header),
+        Stage::Records(left) if left > 0 && kept > 0 => write_fitting(out, Refusal::CutOff),
+        _ => 0,
     }
 }
 
@@ -97,9 +89,5 @@ pub fn finish(stage: Stage, kept: usize, out: &mut [u8]) -> usize
 pub fn is_over(stage: Stage) -> bool
     ensures { result ≡ over stage }
 {
-    match stage {
-        Stage::Header => false,
-        Stage::Records(left) => left == 0,
-        Stage::Stopped => true,
-    }
+    matches!(stage, Stage::Records(0) | Stage::Stopped)
 }
