@@ -8,12 +8,41 @@ ghost use Rattle.origin.specs.Origins.{ORIGINS};
 ghost use Rattle.set.specs.Outcome.{lent};
 ghost use Rattle.answer.specs.Answer.{given};
 ghost use Rattle.region_work.specs.Region.{region_called, region_on};
+ghost use Rattle.region_work.specs.Parts.{table_of};
 
+use answer::Refusal;
 use coordinates::coords::Face;
 use coordinates::lonlat::LonLat;
 use region_copies::{copy_in, write_out};
-use region_core::work::{answer_in, count_in, points_in, work, work_with};
-use region_work::region::RegionAnswer;
+use region_core::work::work;
+use region_work::region::Region;
+
+// A region with the table of origins that is lent, or with the built-in one.
+fn region_either(
+    table: Option<&[f64; 84]>,
+    frame: &[f64],
+    face_store: &mut [f64],
+    sphere_store: &mut [f64],
+    positions: &[LonLat],
+    points: &mut [Face],
+) -> Result<Region, Refusal>
+    ensures { region_called (given result) points.new (lent frame face_store sphere_store).exit
+        ≡ region_on ieee (table_of table.entry) (lent frame face_store sphere_store).entry positions.now points.old }
+{
+    let n = positions.len();
+    let outline = copy_in(positions);
+    let done = work(
+        table,
+        frame,
+        face_store,
+        sphere_store,
+        outline,
+        n,
+        points.len(),
+    )?;
+    write_out(points, done.points, n);
+    Ok(done.region)
+}
 
 // An outline of 1 to 256 positions on one face: the origin that is nearest to all of them, the box round their face points, and
 // the face points, which go to the places lent for them; the set is left as after placing the positions in turn. Refused with
@@ -24,21 +53,11 @@ pub fn region(
     sphere_store: &mut [f64],
     positions: &[LonLat],
     points: &mut [Face],
-) -> RegionAnswer
+) -> Result<Region, Refusal>
     ensures { region_called (given result) points.new (lent frame face_store sphere_store).exit
         ≡ region_on ieee ORIGINS (lent frame face_store sphere_store).entry positions.now points.old }
 {
-    let outline = copy_in(positions);
-    let done = work(
-        frame,
-        face_store,
-        sphere_store,
-        outline,
-        positions.len(),
-        points.len(),
-    );
-    write_out(points, points_in(done), count_in(done));
-    answer_in(done)
+    region_either(None, frame, face_store, sphere_store, positions, points)
 }
 
 // The same with a table of origins, which is tested by 21 and 22 after 3.
@@ -49,20 +68,16 @@ pub fn region_with(
     sphere_store: &mut [f64],
     positions: &[LonLat],
     points: &mut [Face],
-) -> RegionAnswer
+) -> Result<Region, Refusal>
     ensures { region_called (given result) points.new (lent frame face_store sphere_store).exit
         ≡ region_on ieee table (lent frame face_store sphere_store).entry positions.now points.old }
 {
-    let outline = copy_in(positions);
-    let done = work_with(
-        table,
+    region_either(
+        Some(&table),
         frame,
         face_store,
         sphere_store,
-        outline,
-        positions.len(),
-        points.len(),
-    );
-    write_out(points, points_in(done), count_in(done));
-    answer_in(done)
+        positions,
+        points,
+    )
 }

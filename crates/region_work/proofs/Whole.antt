@@ -11,7 +11,6 @@ use borrow.Author.Tests.{ltb-false}
 use Rattle.answer.specs.Given.{Given, answered, refused, passed, refuse_if, and_then, bind}
 use Rattle.answer.proofs.Given.{refuse_answered, then_answered}
 use Rattle.arithmetic.specs.Arith.{Arith}
-use Rattle.coordinates.specs.declared.coords.Face.{Face}
 use Rattle.coordinates.specs.declared.lonlat.LonLat.{LonLat}
 use Rattle.set.specs.Set.{Set}
 use Rattle.set.specs.Checks.{check_with}
@@ -19,9 +18,10 @@ use Rattle.triangles.proofs.Within.{answered_same}
 use Rattle.place_list.specs.Lists.{placed_in_turn, check_counts}
 use Rattle.place_list.specs.declared.PlaceResult.{PlaceResult}
 use Rattle.region_work.specs.declared.region.Region.{Region}
+use Rattle.region_work.specs.declared.region.Outline.{Outline}
 use Rattle.region_work.specs.declared.seen.Seen.{Seen}
-use Rattle.region_work.specs.Region.{check_positions, first_failing, check_origins, points_of, region_of, region_given}
-use Rattle.region_work.specs.Parts.{nothing_seen, Surveyed, surveyed, survey_of, check_region, judged, kept, worked, region_worked}
+use Rattle.region_work.specs.Region.{check_positions, first_failing, check_origins, points_of, region_of, region_called, region_given}
+use Rattle.region_work.specs.Parts.{nothing_seen, Surveyed, surveyed, survey_of, check_region, judged, kept, outlined, region_worked}
 use Rattle.region_work.proofs.Unmoved.{each, in_turn_each}
 use Rattle.region_work.proofs.Surveyed.{any_empty, known, survey_known, in_turn_kept}
 
@@ -54,12 +54,7 @@ some (suc n) (p ∷ ps) e l = (p, take n ps, refl)
 
 -- from what the survey came to
 abbrev pub judged_by : Given Surveyed → Given Region
-judged_by g = bind g λ d. judged passed d.seen
-
-pub judged_found : (check : Given (Unit {0})) (seen : Seen) (points : List Face)
-    → judged check seen ≡ judged_by (and_then check (answered (surveyed seen points)))
-judged_found (answered u) seen points = refl
-judged_found (refused n) seen points = refl
+judged_by g = bind g λ d. judged d.seen
 
 module _ (A : Arith) (table : List Float) (s : Set) (ps : List LonLat) (n m : ℕ) where
   abbrev results : List PlaceResult
@@ -113,21 +108,22 @@ module _ (A : Arith) (table : List Float) (s : Set) (ps : List LonLat) (n m : �
 
   -- ---- what the core leaves
 
-  pub worked_refused : (k : ℕ) (g : Given Region) (count : ℕ) (points : List Face) (exit : Set) → region_given A table s ps n m ≡ refused k
-      → g ≡ refused k → count ≡ 0 → exit ≡ s → worked g count (take count points) exit ≡ region_worked A table s ps n m
+  pub worked_refused : (k : ℕ) (g : Given Outline) → region_given A table s ps n m ≡ refused k → g ≡ refused k
+      → outlined g n s ≡ region_worked A table s ps n m
   unfolding region_worked
-  worked_refused k g count points exit e eg ec es = rw (eg, ec, es, e)
+  worked_refused k g e eg = rw (eg, e)
 
-  pub worked_answered : (r : Region) (seen : Seen) (points : List Face) (exit : Set) → region_given A table s ps n m ≡ answered r → Some
-      → answered (surveyed seen points) ≡ survey_of A table s nothing_seen ps → exit ≡ kept seen.pending (placed_in_turn A table s ps) s
-      → worked (answered r) n points exit ≡ region_worked A table s ps n m
+  pub worked_answered : (o : Outline) (seen : Seen) (exit : Set) → region_given A table s ps n m ≡ answered o.region → Some
+      → survey_of A table s nothing_seen ps ≡ answered (surveyed seen (take n o.points)) → exit ≡ kept seen.pending (placed_in_turn A table s ps) s
+      → outlined (answered o) n exit ≡ region_worked A table s ps n m
   unfolding region_worked
-  worked_answered r seen points exit e one found es =
-      let tells = then_answered (first_failing (each A table s ps)) _ (surveyed seen points) (sym (found ∙ survey_tells one)) in
+  worked_answered o seen exit e one found es =
+      let points = take n o.points in
+      let tells = then_answered (first_failing (each A table s ps)) _ (surveyed seen points) (sym (survey_tells one) ∙ found) in
       let is : surveyed (known A table s ps) (points_of (each A table s ps)) ≡ surveyed seen points = answered_same tells.1 in
       let all : points ≡ points_of results = ap (λ (d : Surveyed). d.points) (sym is) ∙ ap points_of (sym (in_turn_each A table s ps)) in
       let pending : seen.pending ≡ any_empty A table s ps = ap (λ (d : Surveyed). d.seen.pending) (sym is) in
-      rw (e, es, all) (ap (λ (t : Set). worked (answered r) n (points_of results) t) (by seen.pending pending))
+      rw (e, es, all) (ap (region_called (answered o.region) (points_of results)) (by seen.pending pending))
     where
       by : (b : Bool) → b ≡ any_empty A table s ps → kept b (placed_in_turn A table s ps) s ≡ (placed_in_turn A table s ps).set
       by true e = refl

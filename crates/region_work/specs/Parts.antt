@@ -1,8 +1,10 @@
 -- The region call on plain values, for the functions that it is made of: positions and points stand in arrays of 256, of which the first
 -- n count. Definitions only.
-use Rattle.std.specs.Prelude.{ℕ, Bool, true, false, cond, not, ◌||◌, List, [], ◌∷◌, ◌*◌, eqb, Float, take}
+use Rattle.std.specs.Prelude.{ℕ, Bool, false, cond, not, ◌||◌, List, [], ◌∷◌, ◌*◌, eqb, Float, take, Option, Some, None, Result}
+use Rattle.std.specs.Borrow.{Bor}
 use Rattle.answer.specs.Given.{Given, answered, refused, refuse_if, and_then, bind}
 use Rattle.answer.specs.Answer.{given}
+use Rattle.answer.specs.declared.Refusal.{Refusal}
 use Rattle.arithmetic.specs.Arith.{Arith}
 use Rattle.coordinates.specs.declared.coords.Face.{Face}
 use Rattle.coordinates.specs.declared.lonlat.LonLat.{LonLat}
@@ -17,14 +19,15 @@ use Rattle.dodecahedron.specs.declared.place.Place.{Place}
 use Rattle.place_list.specs.Lists.{Placed, placed_in_turn, check_counts}
 use Rattle.caption_box.specs.Sides.{new_box, grown}
 use Rattle.region_work.specs.declared.region.Region.{Region}
+use Rattle.region_work.specs.declared.region.Outline.{Outline}
 use Rattle.region_work.specs.declared.seen.Seen.{Seen}
 use Rattle.region_work.specs.declared.seen.Found.{Found}
 use Rattle.region_work.specs.Region.{check_positions, RegionCalled, region_called, region_left, region_given}
 
--- the built-in table, or the one that is lent
-abbrev pub table_of : Bool → List Float → List Float
-table_of true table = ORIGINS
-table_of false table = table
+-- the table that is lent, or the built-in one
+abbrev pub table_of : Option (Bor (List Float)) → List Float
+table_of None = ORIGINS
+table_of (Some table) = table.now
 
 -- ---- the survey: every position on the set as it stands
 
@@ -66,8 +69,8 @@ survey_of A table s seen (p ∷ ps) =
     answered (surveyed rest.seen (w.answer.face ∷ rest.points))
 
 -- what the code gives, of which n points count
-abbrev pub given_found : Found → ℕ → Given Surveyed
-given_found r n = and_then (given r.check) (answered (surveyed r.seen (take n r.points)))
+abbrev pub given_found : Result Found Refusal → ℕ → Given Surveyed
+given_found r n = bind (given r) λ found. answered (surveyed found.seen (take n found.points))
 
 -- ---- the refusals and the stores
 
@@ -78,12 +81,9 @@ check_region A table s n m =
     (and_then (check_positions n)
     (check_counts n m))
 
--- a position's own number, and 16
-abbrev pub judged : Given (Unit {0}) → Seen → Given Region
-judged check seen =
-    and_then check
-    (refuse_if seen.differ 16
-    (answered (record { origin = seen.origin; bounds = seen.bounds })))
+-- 16, or the answer
+abbrev pub judged : Seen → Given Region
+judged seen = refuse_if seen.differ 16 (answered (record { origin = seen.origin; bounds = seen.bounds }))
 
 -- the set once the positions are placed in turn; where no slot that they use is empty it stays as it was
 abbrev pub kept : Bool → Placed → Set → Set
@@ -91,21 +91,11 @@ kept pending d s = cond pending d.set s
 
 -- ---- what the core comes to
 
--- how many points are to be handed out, and the call, where no points were there before
-pub record Worked : Type 0 where
-  pub count : ℕ
-  pub called : RegionCalled
-
-abbrev pub worked : Given Region → ℕ → List Face → Set → Worked
-worked g count points s = record { count = count; called = region_called g points s }
-
--- all n of them, or none of a call that is refused
-abbrev pub count_of : Given Region → ℕ → ℕ
-count_of (answered r) n = n
-count_of (refused c) n = 0
+-- what an outline of n positions comes to, where no points were there before: its n points, or none where it is refused
+abbrev pub outlined : Given Outline → ℕ → Set → RegionCalled
+outlined (answered o) n s = region_called (answered o.region) (take n o.points) s
+outlined (refused c) n s = region_called (refused c) [] s
 
 -- n positions, of which ps are there, and m lent point places
-unfoldable pub region_worked : Arith → List Float → Set → List LonLat → ℕ → ℕ → Worked
-region_worked A table s ps n m =
-    let given = region_given A table s ps n m in
-    record { count = count_of given n; called = region_left given (placed_in_turn A table s ps) [] s }
+unfoldable pub region_worked : Arith → List Float → Set → List LonLat → ℕ → ℕ → RegionCalled
+region_worked A table s ps n m = region_left (region_given A table s ps n m) (placed_in_turn A table s ps) [] s

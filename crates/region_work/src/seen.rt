@@ -1,5 +1,4 @@
 // What is worked out of an outline's positions before anything is written.
-use answer::Check;
 use caption_box::CaptionBox;
 use coordinates::coords::Face;
 
@@ -13,10 +12,9 @@ pub struct Seen {
     pub bounds: CaptionBox,
 }
 
-// All positions worked out, or the refusal of the first one that place refuses; with their face points.
-#[derive(Drop)]
+// All positions worked out: what is known of them, and their face points.
+#[derive(Clone, Copy)]
 pub struct Found {
-    pub check: Check,
     pub seen: Seen,
     pub points: [Face; 256],
 }

@@ -1,6 +1,5 @@
 -- `survey::survey` meets its contract. The loop's invariant: the points so far, with the survey of what is still to come from what is known so far, are
--- the survey of all. The measure is how many are still to come. Assumes nothing.
-use Prim.Native.Nat.{◌≤◌, ◌-◌}
+-- the survey of all.
 use mathlib.Core.Path.{◌≡◌}
 use lib.ListN.{length, take}
 use Rattle.arithmetic.specs.Arith.{ieee}
@@ -10,9 +9,6 @@ use Rattle.region_work.proofs.Loops.{going}
 use Rattle.region_core.proofs.survey.survey.Given as goal
 
 abbrev pub invariant-loop-i : goal.invariant-loop-i
-invariant-loop-i l = (l.i ≤ l.n) × (length l.positions ≡ 256) × (length l.points ≡ 256)
-    × (going ieee (table_of l.built_in l.table) (set_of l.frame l.face_store l.sphere_store) l.seen l.points l.i (take l.n l.positions)
-    ≡ survey_of ieee (table_of l.built_in l.table) (set_of l.frame l.face_store l.sphere_store) nothing_seen (take l.n l.positions))
-
-abbrev pub decreases-loop-i : goal.decreases-loop-i
-decreases-loop-i l = l.n - l.i
+invariant-loop-i l = (length l.points ≡ 256)
+    × (going ieee (table_of l.table) (set_of l.frame l.face_store l.sphere_store) l.seen l.points l.i (take l.n l.positions)
+    ≡ survey_of ieee (table_of l.table) (set_of l.frame l.face_store l.sphere_store) nothing_seen (take l.n l.positions))

@@ -1,11 +1,6 @@
--- `work::keep` meets its contract. The loop's invariant: placing in turn what is still to come, on the set as it is, leaves what placing all of
--- them leaves. The measure is how many are still to come. Assumes nothing.
-use Prim.Native.Nat.{◌≤◌}
-use mathlib.Core.Path.{◌∙◌}
-use native.Mathlib.Omega.{arith}
+-- `work::keep` meets its contract: one turn of its loop. Assumes nothing.
+use Rattle.std.proofs.Common.{◌≤◌, ◌∙◌, length, arith, rules}
 use lib.Ieee.{nan}
-use lib.ListN.{length}
-use borrow.Author.Rules.{rules}
 use Rattle.arithmetic.specs.Arith.{ieee}
 use Rattle.coordinates.specs.declared.lonlat.LonLat.{LonLat}
 use Rattle.region_work.proofs.Loops.{keep_goes}
@@ -19,10 +14,9 @@ none = record { longitude = record { 0 = nan }; latitude = record { 0 = nan } }
 pub loop-i-preserved : goal.loop-i-preserved
 loop-i-preserved c =
     let a = c.args in
-    let fits : a.n ≤ length a.positions = omega (arith, c.requires, c.loop-i.invariant.1) in (
-      omega arith,
-      c.loop-i.invariant.1,
+    let fits : a.n ≤ length a.positions = omega (arith, c.loop-i.invariant.0) in (
+      c.loop-i.invariant.0,
       search rules,
       search rules,
-      keep_goes ieee _ _ _ a.n c.loop-i.i a.positions none c.loop-i-test.true fits c.place_either.ensures ∙ c.loop-i.invariant.4,
+      keep_goes ieee _ _ _ a.n c.loop-i.i a.positions none c.loop-i-test.true fits c.place_either.ensures ∙ c.loop-i.invariant.3,
     )

@@ -1,0 +1,18 @@
+-- `region_either` meets its contract: `copy_in` reads the positions, `work` works the region out on the copies, and `write_out` writes
+-- the points. Of these functions only the contracts are known (Whole.antt). Assumes nothing.
+use Rattle.std.proofs.Common.{ap}
+use Rattle.answer.specs.Answer.{given}
+use Rattle.answer.proofs.Given.{handed_on}
+use Rattle.region_work.specs.Parts.{table_of}
+use Rattle.region.proofs.Whole.{region_refused, region_answered}
+use Rattle.region.proofs.region_either.Goals as goal
+
+pub returns-in_err-done : goal.returns-in_err-done
+returns-in_err-done c =
+    region_refused (table_of c.args.table) _ c.args.positions.now c.args.points.now _ _ _ c.copy_in-outline.ensures c.work.ensures
+    _ _ (ap given c.in_err-done.was) (handed_on _ _ c.from_residual.ensures)
+
+pub returns : goal.returns
+returns c =
+    region_answered (table_of c.args.table) _ c.args.positions.now c.args.points.now _ _ _ c.copy_in-outline.ensures c.work.ensures
+    c.in_ok-done.done _ (ap given c.in_ok-done.was) c.write_out.ensures
