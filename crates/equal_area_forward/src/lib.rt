@@ -14,6 +14,7 @@ use spherical_polygon::{spherical_triangle_area, spherical_triangle_area_and_sqr
 use vector::{cross, dot, length, scale, scale_and_add};
 
 // The constants of a canonical triangle.
+#[tactic(auto, unfolding(equal_area::specs::EqualArea::compute_constants))]
 pub fn compute_constants(triangle: SphericalTriangle) -> TriangleConstants
     ensures { result ≡ compute_constants ieee triangle }
 {
@@ -50,6 +51,7 @@ pub fn compute_constants(triangle: SphericalTriangle) -> TriangleConstants
 }
 
 // 1 / d, or 1 where d is not above 0.
+#[tactic(auto, unfolding(equal_area::specs::EqualArea::one_over))]
 fn one_over(d: f64) -> f64
     ensures { result ≡ one_over ieee d }
 {
@@ -57,6 +59,7 @@ fn one_over(d: f64) -> f64
 }
 
 // From the sphere to the face. bxc is B × C of the spherical triangle.
+#[tactic(auto, unfolding(equal_area::specs::EqualArea::forward))]
 pub fn forward(
     constants: TriangleConstants,
     v: Cartesian,
