@@ -22,18 +22,18 @@ block_refuses s b n block = rw block
 
 set_refuses : (s : Set) (b : List ℕ) (n : ℕ) → check_block b ≡ passed → check_set s ≡ refused n → check_step ieee ORIGINS s b ≡ refused n
 unfolding check_step
-set_refuses s b n block set = simp (block, built_in_check, set)
+set_refuses s b n block set = rw block (built_in_check s ∙ set)
 
 both_pass : (s : Set) (b : List ℕ) → check_block b ≡ passed → check_set s ≡ passed → check_step ieee ORIGINS s b ≡ passed
 unfolding check_step
-both_pass s b block set = simp (block, built_in_check, set)
+both_pass s b block set = rw block (built_in_check s ∙ set)
 
 pub returns-in_err-check_block : goal.returns-in_err-check_block
 returns-in_err-check_block c =
     let s = set_of c.args.frame.now c.args.face_store.now c.args.sphere_store.now in
     let block = sym c.check_block.ensures ∙ ap given c.in_err-check_block.was in
     let refuses = block_refuses s c.args.block.now _ block in
-    steps_refused ORIGINS _ (refuses ∙ sym (handed_on _ _ c.from_residual.ensures)) refl refl
+    rw (handed_on _ _ c.from_residual.ensures) (steps_refused ORIGINS _ refuses refl refl)
 
 pub returns-in_err-check_set : goal.returns-in_err-check_set
 returns-in_err-check_set c =
@@ -41,7 +41,7 @@ returns-in_err-check_set c =
     let block = sym c.check_block.ensures ∙ ap given c.in_ok-check_block.was in
     let set = sym c.check_set.ensures ∙ ap given c.in_err-check_set.was in
     let refuses = set_refuses s c.args.block.now _ block set in
-    steps_refused ORIGINS _ (refuses ∙ sym (handed_on _ _ c.from_residual-in_err-check_set.ensures)) refl refl
+    rw (handed_on _ _ c.from_residual-in_err-check_set.ensures) (steps_refused ORIGINS _ refuses refl refl)
 
 pub carry_out-requires : goal.carry_out-requires
 carry_out-requires c =

@@ -22,18 +22,18 @@ module _ (table : List Float) (s : Set) (b : List ℕ) where
 
   set_refuses : (n : ℕ) → check_block b ≡ passed → check_with ieee table s ≡ refused n → check_step ieee table s b ≡ refused n
   unfolding check_step
-  set_refuses n block set = simp (block, set)
+  set_refuses n block set = rw block set
 
   both_pass : check_block b ≡ passed → check_with ieee table s ≡ passed → check_step ieee table s b ≡ passed
   unfolding check_step
-  both_pass block set = simp (block, set)
+  both_pass block set = rw block set
 
 pub returns-in_err-check_block : goal.returns-in_err-check_block
 returns-in_err-check_block c =
     let s = set_of c.args.frame.now c.args.face_store.now c.args.sphere_store.now in
     let block = sym c.check_block.ensures ∙ ap given c.in_err-check_block.was in
     let refuses = block_refuses c.args.table s c.args.block.now _ block in
-    steps_refused c.args.table _ (refuses ∙ sym (handed_on _ _ c.from_residual.ensures)) refl refl
+    rw (handed_on _ _ c.from_residual.ensures) (steps_refused c.args.table _ refuses refl refl)
 
 pub returns-in_err-check_with : goal.returns-in_err-check_with
 returns-in_err-check_with c =
@@ -41,7 +41,7 @@ returns-in_err-check_with c =
     let block = sym c.check_block.ensures ∙ ap given c.in_ok-check_block.was in
     let set = sym c.check_with.ensures ∙ ap given c.in_err-check_with.was in
     let refuses = set_refuses c.args.table s c.args.block.now _ block set in
-    steps_refused c.args.table _ (refuses ∙ sym (handed_on _ _ c.from_residual-in_err-check_with.ensures)) refl refl
+    rw (handed_on _ _ c.from_residual-in_err-check_with.ensures) (steps_refused c.args.table _ refuses refl refl)
 
 pub carry_out_with-requires : goal.carry_out_with-requires
 carry_out_with-requires c =
