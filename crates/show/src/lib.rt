@@ -28,6 +28,7 @@ fn state_at(store: &[f64], at: usize) -> bool
 }
 
 // The companion: 2, 3, 10, and otherwise whether the slot is filled.
+#[tactic(auto, unfolding(crate::specs::Show::slot_given))]
 pub fn slot_state(
     face_store: &[f64],
     sphere_store: &[f64],
@@ -81,6 +82,7 @@ pub fn show<'a>(
             StoreKind::Face => coordinates(face_store, slot * FACE_WIDTH, FACE_COORDINATES),
             StoreKind::Sphere => coordinates(sphere_store, slot * SPHERE_WIDTH, SPHERE_COORDINATES),
         },
-        Ok(false) | Err(_) => &face_store[0..0],
+        Ok(false) => &face_store[0..0],
+        Err(_) => &face_store[0..0],
     }
 }
