@@ -2,7 +2,7 @@
 // (document 01, "The strike program").
 #![tactic(auto)]
 
-ghost use Rattle.std.specs.Prelude.{◌≡◌, ◌≤◌, min, length};
+ghost use Rattle.std.specs.Prelude.{◌≤◌, length};
 ghost use Rattle.arithmetic.specs.Arith.{ieee};
 ghost use Rattle.origin.specs.Origins.{ORIGINS};
 ghost use Rattle.set.specs.Outcome.{lent};
@@ -16,13 +16,6 @@ use strike_answers::answers::answer_records;
 use strike_records::line::{LINE, write_refusal};
 use strike_records::record::is_header;
 use strike_session::session::{Fed, Stage};
-
-// The smaller of two numbers.
-pub fn least(a: usize, b: usize) -> usize
-    ensures { result ≡ min a b }
-{
-    if a < b { a } else { b }
-}
 
 // All records that can be answered, behind so many bytes of the header.
 fn feed_records(
@@ -38,7 +31,7 @@ fn feed_records(
     ensures { Feeds (lent frame face_store sphere_store) (lent_bytes out) result
         (λ s. records_fed ieee ORIGINS header left s input.now (answerable left input.now (length out.old))) }
 {
-    let count = least(left as usize, least(input.len() / 10, out.len() / LINE));
+    let count = (left as usize).min((input.len() / 10).min(out.len() / LINE));
     let written = answer_records(frame, face_store, sphere_store, input, out, count);
     Fed {
         stage: Stage::Records(left - count as u32),
@@ -72,7 +65,7 @@ fn feed_header(
             face_store,
             sphere_store,
             5,
-            0xffff_ffff,
+            u32::MAX,
             &input[5..],
             out,
         );
@@ -80,7 +73,7 @@ fn feed_header(
     if out.len() < LINE {
         return nothing;
     }
-    let written = write_refusal(out, 0, answer::number(Refusal::Header));
+    let written = write_refusal(out, 0, Refusal::Header.number());
     Fed {
         stage: Stage::Stopped,
         taken: 5,

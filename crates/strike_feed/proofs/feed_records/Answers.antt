@@ -14,10 +14,9 @@ unfolding records_fed
 returns c =
     let a = c.args in
     let s = set_of a.frame.now a.face_store.now a.sphere_store.now in
-    let least = c.least.ensures in
-    let count : c.least-count.result ≡ answerable a.left a.input.now (length a.out.now) =
-    c.least-count.ensures ∙ ap (min a.left) least in
+    let count : c.min-count.result ≡ answerable a.left a.input.now (length a.out.now) =
+    c.min-count.ensures ∙ ap (min a.left) c.min.ensures in
     let answered = c.answer_records-written.ensures in
-    let fed : Set → Fed = λ t. records_fed ieee ORIGINS a.header a.left t a.input.now c.least-count.result in
+    let fed : Set → Fed = λ t. records_fed ieee ORIGINS a.header a.left t a.input.now c.min-count.result in
     feeds_as {f = fed} _ (ap (records_fed ieee ORIGINS a.header a.left s a.input.now) count)
     (record { stage_is = refl; taken_is = refl; lines = answered.lines; left = answered.left })
