@@ -1,129 +1,60 @@
 // The calls on a set: a list of positions, with a table too, and open.
-ghost use Rattle.std.specs.Prelude.{◌<◌};
-
-use crate::arrays::{POSITIONS, RESULTS, blank, positions, put_results};
-use crate::set_up::TABLES_AT;
+use crate::lists::Lists;
+use list_calls::place_list;
 use open_calls::open;
-use replay::outcome::{Outcome, refused};
-use replay::record::word;
-use replay_lend_lists::{lend, lend_with};
-use replay_lent::lists::{Listed, MOST};
-use replay_sets::given::of_open;
-use replay_sets::places::NO_SUCH_PLACE;
-use replay_sets::tables::table;
+use replay::outcome::{Outcome, done, told};
+use replay::record::Record;
+use replay_sets::asked::lengths;
+use replay_sets::noted::{Lent, Set};
+use replay_sets::places::DEFINED_AT;
+use replay_sets::tables::{TABLES, table};
+use table_lists::place_list_with;
 
 // The numbers of the records of open, and of lists with a table; the others are lists without one.
-pub const OPEN: u8 = 2;
+const OPEN: u8 = 2;
 
 const WITH: u8 = 3;
 
-// The status of a call, whose results are left.
-fn told(given: Listed, results: &mut [u64; RESULTS]) -> Outcome {
-    let filled = given.results;
-    put_results(filled, results);
-    refused(given.status)
+// What the set should hold, then what the Rust has for an opened set with every slot filled, and then the tables.
+const TABLES_AT: usize = 2 * DEFINED_AT;
+
+pub const NOTES: usize = TABLES_AT + TABLES;
+
+// Open has the three lengths as its arguments. Before it, it is noted what it should leave: it always answers here.
+fn opened(set: &mut Set, record: &Record) -> Option<Outcome> {
+    set.opened(DEFINED_AT)?;
+    let Lent {
+        frame,
+        face,
+        sphere,
+    } = set.lend(lengths(record, 0))?;
+    Some(told(open(frame, face, sphere), done))
 }
 
-// A list of so many positions and so many results. Every result holds the same before.
-fn place(
-    frame: &[f64],
-    face: &mut [f64],
-    sphere: &mut [f64],
-    numbers: &[f64; POSITIONS],
-    n: usize,
-    m: usize,
-    results: &mut [u64; RESULTS],
-) -> Outcome {
-    if n > MOST || m > MOST {
-        return refused(NO_SUCH_PLACE);
-    }
-    let list = positions(numbers);
-    told(lend(frame, face, sphere, list, n, blank(), m), results)
+// A list has how many positions and results are lent, the three lengths, and the number of a table where it takes one. Every
+// result holds the same before.
+fn placed(set: &mut Set, lists: &mut Lists, record: &Record) -> Option<Outcome> {
+    let rows = table(&set.notes, TABLES_AT, record.word(5));
+    let Lent {
+        frame,
+        face,
+        sphere,
+    } = set.lend(lengths(record, 2))?;
+    lists.clear();
+    let positions = lists.positions.get(..record.word(0) as usize)?;
+    let results = lists.results.get_mut(..record.word(1) as usize)?;
+    let given = if record.head.number == WITH {
+        place_list_with(rows, frame, face, sphere, positions, results)
+    } else {
+        place_list(frame, face, sphere, positions, results)
+    };
+    Some(told(given, done))
 }
 
-// The same with a table.
-fn place_with(
-    table: [f64; 84],
-    frame: &[f64],
-    face: &mut [f64],
-    sphere: &mut [f64],
-    numbers: &[f64; POSITIONS],
-    n: usize,
-    m: usize,
-    results: &mut [u64; RESULTS],
-) -> Outcome {
-    if n > MOST || m > MOST {
-        return refused(NO_SUCH_PLACE);
+// The call of a record.
+pub fn called(set: &mut Set, lists: &mut Lists, record: &Record) -> Option<Outcome> {
+    if record.head.number == OPEN {
+        return opened(set, record);
     }
-    let list = positions(numbers);
-    told(
-        lend_with(table, frame, face, sphere, list, n, blank(), m),
-        results,
-    )
-}
-
-// The call of a record, on the buffers that are lent. A table's number is the record's last argument.
-fn ask(
-    number: u8,
-    notes: &[f64],
-    frame: &mut [f64],
-    face: &mut [f64],
-    sphere: &mut [f64],
-    numbers: &[f64; POSITIONS],
-    results: &mut [u64; RESULTS],
-    words: &[u8; 96],
-) -> Outcome {
-    if number == OPEN {
-        return of_open(open(frame, face, sphere));
-    }
-    let n = word(words, 0) as usize;
-    let m = word(words, 1) as usize;
-    if number == WITH {
-        let rows = table(notes, TABLES_AT, word(words, 5));
-        return place_with(rows, frame, face, sphere, numbers, n, m, results);
-    }
-    place(frame, face, sphere, numbers, n, m, results)
-}
-
-// Which of a record's words has the first length: open has the three as its arguments, a list after the counts of its positions and results.
-fn lengths_at(number: u8) -> usize
-    ensures { result < 3 }
-{
-    if number == OPEN {
-        return 0;
-    }
-    2
-}
-
-// The call of a record on the first numbers of the three buffers, as many as are lent.
-pub fn call(
-    number: u8,
-    notes: &[f64],
-    frame: &mut [f64],
-    face: &mut [f64],
-    sphere: &mut [f64],
-    numbers: &[f64; POSITIONS],
-    results: &mut [u64; RESULTS],
-    words: &[u8; 96],
-) -> Outcome {
-    let first = lengths_at(number);
-    let of_frame = word(words, first);
-    let of_face = word(words, first + 1);
-    let of_sphere = word(words, first + 2);
-    if of_frame > frame.len() as u64 || of_face > face.len() as u64 {
-        return refused(NO_SUCH_PLACE);
-    }
-    if of_sphere > sphere.len() as u64 {
-        return refused(NO_SUCH_PLACE);
-    }
-    ask(
-        number,
-        notes,
-        &mut frame[..of_frame as usize],
-        &mut face[..of_face as usize],
-        &mut sphere[..of_sphere as usize],
-        numbers,
-        results,
-        words,
-    )
+    placed(set, lists, record)
 }

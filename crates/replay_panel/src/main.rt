@@ -4,185 +4,119 @@
 // status, names each record that differs, and says so where the list is malformed.
 #![tactic(auto)]
 
-mod ask;
 mod tables;
 
-ghost use Rattle.std.specs.Prelude.{◌≡◌, ◌<◌, length};
+ghost use Rattle.std.specs.Prelude.{◌<◌, ◌≤◌};
 
-use crate::ask::{Head, ask};
-use crate::tables::{NUMBERS, wide};
-use open_calls::open;
+use open_calls::{open, open_with};
+use panel_step::step;
+use replay::function::Function;
 use replay::record::read_full;
-use replay::report;
+use replay_tally::lines;
+use replay_tally::lines::Replayed;
 use set::sizes::{FACE_STORE, FRAME, SPHERE_STORE};
 use std::io;
-use std::io::{Read, Write};
+use std::io::Read;
+use table_panel::step_with;
 
-// Whether the 34 bytes of the block are the stored ones behind them.
-fn is_as_stored(bytes: &[u8]) -> bool
-    requires { length bytes.now ≡ 73 }
+// A record's bytes: what is asked, the table's number, which buffers are lent without their last number, how many bytes of the
+// block are lent, the status that is due, the block, and the block as it should be afterwards.
+const BLOCK_AT: usize = 5;
+
+const AFTER_AT: usize = BLOCK_AT + 34;
+
+const SIZE: usize = AFTER_AT + 34;
+
+// The set that the steps are carried out on, and the tables that the records name.
+#[derive(Drop)]
+struct Panel {
+    frame: [f64; FRAME],
+    face: [f64; FACE_STORE],
+    sphere: [f64; SPHERE_STORE],
+    tables: [[f64; 84]; tables::COUNT],
+}
+
+// How many numbers of a buffer are lent: all, or where its bit is set all but the last.
+fn lent(count: usize, short: u8, bit: u8) -> usize
+    requires { 0 < count }
+    ensures { result ≤ count }
 {
-    let mut i: usize = 5;
-    while i < 39 {
-        if bytes[i] != bytes[i + 34] {
-            return false;
-        }
-        i += 1;
-    }
-    true
+    if short & bit == 0 { count } else { count - 1 }
+}
+
+// Does what is asked, on the bytes of the block that are lent: 0 is a step, 1 a step with a table, and 2 that the set is opened with
+// a table. The status: 0, or the refusal's number. A table that there is not is zeros, which every call refuses.
+fn ask(panel: &mut Panel, asked: u8, number: u8, short: u8, block: &mut [u8]) -> u8 {
+    let Panel {
+        frame,
+        face,
+        sphere,
+        tables,
+    } = panel;
+    let table = tables.get(usize::from(number)).copied().unwrap_or([0.0; 84]);
+    let frame = &mut frame[..lent(FRAME, short, 1)];
+    let face = &mut face[..lent(FACE_STORE, short, 2)];
+    let sphere = &mut sphere[..lent(SPHERE_STORE, short, 4)];
+    answer::status(match asked {
+        0 => step(frame, face, sphere, block),
+        1 => step_with(table, frame, face, sphere, block),
+        _ => open_with(table, frame, face, sphere),
+    })
 }
 
 // Does what a record asks where the block stands in it, and says whether the status and the block are then the stored ones.
-fn agrees(
-    tables: &[f64; NUMBERS],
-    frame: &mut [f64; FRAME],
-    face_store: &mut [f64; FACE_STORE],
-    sphere_store: &mut [f64; SPHERE_STORE],
-    bytes: &mut [u8],
-) -> bool
-    requires { length bytes.old ≡ 73 }
-{
-    let head = Head {
-        asked: bytes[0],
-        short: bytes[2],
-    };
-    let table = tables::table(tables, bytes[1]);
-    let end = wide(bytes[3]) + 5;
-    let stored = bytes[4];
-    if end > 39 {
+fn agrees(panel: &mut Panel, record: &mut [u8; SIZE]) -> bool {
+    let [asked, number, short, count, due, ..] = *record;
+    let end = BLOCK_AT + usize::from(count);
+    if end > AFTER_AT {
         return false;
     }
-    let given = ask(
-        head,
-        table,
-        frame,
-        face_store,
-        sphere_store,
-        &mut bytes[5..end],
-    );
-    if given != stored {
-        return false;
-    }
-    is_as_stored(bytes)
+    let given = ask(panel, asked, number, short, &mut record[BLOCK_AT..end]);
+    given == due && record[BLOCK_AT..AFTER_AT] == record[AFTER_AT..]
 }
 
-// The line of what was asked, where it is carried out. The next one is for refused.
-fn line(asked: u8) -> usize
-    ensures { result < 31 }
-{
-    match asked {
+// The line of what was asked and its stored status: carried out, and then refused.
+fn line(asked: u8, due: u8) -> usize {
+    let carried_out = match asked {
         0 => 1,
         1 => 3,
         _ => 5,
-    }
+    };
+    if due == 0 { carried_out } else { carried_out + 1 }
 }
 
-fn line_of(asked: u8, status: u8) -> usize
-    ensures { result < 32 }
-{
-    let line = line(asked);
-    if status == 0 {
-        return line;
-    }
-    line + 1
-}
-
-fn count(counts: &mut [u64; 32], number: usize)
-    requires { number < 32 }
-{
-    counts[number] = std::num::wrapping_add_u64(counts[number], 1);
-}
-
-fn difference<W: Write>(to: &mut W, number: u64) -> io::Result<()> {
-    writeln!(to, "record {number} differs")
-}
-
-// Reads one record and replays it. Answers whether there was one.
-fn replay_next<R: Read, W: Write>(
-    from: &mut R,
-    to: &mut W,
-    number: u64,
-    tables: &[f64; NUMBERS],
-    frame: &mut [f64; FRAME],
-    face_store: &mut [f64; FACE_STORE],
-    sphere_store: &mut [f64; SPHERE_STORE],
-    compared: &mut [u64; 32],
-    differ: &mut [u64; 32],
-) -> io::Result<bool> {
-    let mut record = [0u8; 73];
-    let size = read_full(from, &mut record)?;
-    if size == 0 {
-        return Ok(false);
-    }
-    if size < 73 {
-        report::cut_off(to)?;
-        return Ok(false);
-    }
-    let of = line_of(record[0], record[4]);
-    count(compared, of);
-    if !agrees(tables, frame, face_store, sphere_store, &mut record) {
-        count(differ, of);
-        difference(to, number)?;
-    }
-    Ok(true)
-}
-
-// Nothing says that the input ends, so the loop counts its records up to more than any list has.
-fn replay_all<R: Read, W: Write>(
-    from: &mut R,
-    to: &mut W,
-    tables: &[f64; NUMBERS],
-    frame: &mut [f64; FRAME],
-    face_store: &mut [f64; FACE_STORE],
-    sphere_store: &mut [f64; SPHERE_STORE],
-) -> io::Result<()> {
-    let mut compared = [0u64; 32];
-    let mut differ = [0u64; 32];
-    let mut number: u64 = 0;
-    let mut more = true;
-    while number < 0xffff_ffff && more {
-        more = replay_next(
-            from,
-            to,
-            number,
-            tables,
-            frame,
-            face_store,
-            sphere_store,
-            &mut compared,
-            &mut differ,
-        )?;
-        number += 1;
-    }
-    if number == 0xffff_ffff {
-        report::too_long(to)?;
-    }
-    report::summaries(
-        to,
-        b" carried_out refused carried_out_with refused_with open_with open_with_refused",
-        6,
-        &compared,
-        &differ,
-    )
-}
-
-fn run<R: Read, W: Write>(from: &mut R, to: &mut W) -> io::Result<()> {
-    let mut tables = [0.0; NUMBERS];
-    tables::read(from, &mut tables)?;
-    let mut frame = [0.0; FRAME];
-    let mut face_store = [0.0; FACE_STORE];
-    let mut sphere_store = [0.0; SPHERE_STORE];
-    open(&mut frame, &mut face_store, &mut sphere_store);
-    replay_all(
-        from,
-        to,
-        &tables,
-        &mut frame,
-        &mut face_store,
-        &mut sphere_store,
-    )
+// Reads one record and replays it.
+fn replay_next<R: Read>(from: &mut R, panel: &mut Panel) -> io::Result<Replayed> {
+    let mut record = [0u8; SIZE];
+    Ok(match read_full(from, &mut record)? {
+        0 => Replayed::Ended,
+        SIZE => Replayed::Compared {
+            line: line(record[0], record[4]),
+            agrees: agrees(panel, &mut record),
+        },
+        _ => Replayed::CutOff,
+    })
 }
 
 fn main(rt: HostRuntime) -> io::Result<()> {
-    run(&mut rt.stdin(), &mut rt.stdout())
+    let lines = [
+        Function::new("carried_out", 0),
+        Function::new("refused", 0),
+        Function::new("carried_out_with", 0),
+        Function::new("refused_with", 0),
+        Function::new("open_with", 0),
+        Function::new("open_with_refused", 0),
+    ];
+    let mut input = rt.stdin();
+    let mut panel = Panel {
+        frame: [0.0; FRAME],
+        face: [0.0; FACE_STORE],
+        sphere: [0.0; SPHERE_STORE],
+        tables: tables::read(&mut input)?,
+    };
+    // Where it is not opened, the records differ.
+    let _given = open(&mut panel.frame, &mut panel.face, &mut panel.sphere);
+    lines::run(&mut input, &mut rt.stdout(), &lines, |from| {
+        replay_next(from, &mut panel)
+    })
 }

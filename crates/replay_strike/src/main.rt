@@ -4,21 +4,21 @@
 // the list is malformed.
 #![tactic(auto)]
 
-ghost use Rattle.std.specs.Prelude.{◌≡◌, ◌≤◌, min, length, IfOk};
+ghost use Rattle.std.specs.Prelude.{◌≡◌, ◌≤◌, length};
 
 use replay::record::read_full;
 use set::sizes::{FACE_STORE, FRAME, SPHERE_STORE};
+use std::alloc::Global;
 use std::io;
 use std::io::{Read, Write};
 use strike_feed::feed;
 use strike_session::session::{Stage, begin, finish};
 
-// A part of the list: whether there is one, and how many bytes it has.
-#[derive(Clone, Copy)]
-struct Part {
-    is_there: bool,
-    count: usize,
-}
+// The longest part of the list, and room for a session's lines.
+const ROOM: usize = 4096;
+
+// The pieces of the input's runs are of one byte and so many more.
+const MORE: [usize; 4] = [0, 2, 9, ROOM - 1];
 
 // A session: where it stands, how many bytes of its input were taken, and how many were written.
 #[derive(Clone, Copy)]
@@ -28,65 +28,25 @@ struct Standing {
     written: usize,
 }
 
-// Room for a session of the list, or for its lines.
-fn room() -> [u8; 4096]
-    ensures { 4096 ≡ length result }
-{
-    [0; 4096]
-}
-
 // Says that the list is malformed.
 fn malformed<W: Write>(to: &mut W) -> io::Result<()> {
-    to.write_all(b"malformed list\n")
+    writeln!(to, "malformed list")
 }
 
-fn least(a: usize, b: usize) -> usize
-    ensures { result ≡ min a b }
-{
-    if a < b { a } else { b }
-}
-
-// No part, as the list has ended or is malformed.
-fn none() -> Part
-    ensures { result.count ≡ 0 }
-{
-    Part {
-        is_there: false,
-        count: 0,
-    }
-}
-
-fn of_two(a: u8, b: u8) -> usize {
-    a as usize * 256 + b as usize
-}
-
-// Reads a part into the space for it.
-fn read_part<R: Read, W: Write>(from: &mut R, to: &mut W, space: &mut [u8]) -> io::Result<Part>
-    ensures { IfOk result (λ part. part.count ≤ length space.new) }
-{
+// Reads a part: its length in two bytes, and so many bytes. None where the list has ended, or is malformed, which is then said.
+fn read_part<R: Read, W: Write>(alloc: Global, from: &mut R, to: &mut W) -> io::Result<Option<Vec<u8>>> {
     let mut size = [0u8; 2];
-    let n = read_full(from, &mut size)?;
-    if n == 0 {
-        return Ok(none());
+    let read = read_full(from, &mut size)?;
+    if read == 0 {
+        return Ok(None);
     }
-    let count = of_two(size[0], size[1]);
-    if n < 2 {
+    let count = usize::from(u16::from_be_bytes(size));
+    let mut part = vec![in alloc; 0u8; count.min(ROOM)]?;
+    if read < size.len() || read_full(from, part.as_mut_slice())? < count {
         malformed(to)?;
-        return Ok(none());
+        return Ok(None);
     }
-    if count > space.len() {
-        malformed(to)?;
-        return Ok(none());
-    }
-    let got = read_full(from, &mut space[..count])?;
-    if got < count {
-        malformed(to)?;
-        return Ok(none());
-    }
-    Ok(Part {
-        is_there: true,
-        count,
-    })
+    Ok(Some(part))
 }
 
 // Feeds what has arrived by now and was not taken.
@@ -101,22 +61,18 @@ fn step(
     requires { (at.taken ≤ length arrived.now) × (at.written ≤ length lines.old) }
     ensures { (result.taken ≤ length arrived.now) × (result.written ≤ length lines.new) }
 {
-    let stage = at.stage;
-    let taken = at.taken;
-    let written = at.written;
     let fed = feed(
-        stage,
+        at.stage,
         frame,
         face,
         sphere,
-        &arrived[taken..],
-        &mut lines[written..],
+        &arrived[at.taken..],
+        &mut lines[at.written..],
     );
-    let next = fed.stage;
     Standing {
-        stage: next,
-        taken: taken + fed.taken,
-        written: written + fed.written,
+        stage: fed.stage,
+        taken: at.taken + fed.taken,
+        written: at.written + fed.written,
     }
 }
 
@@ -125,12 +81,11 @@ fn end(at: Standing, arrived: usize, lines: &mut [u8]) -> usize
     requires { (at.taken ≤ arrived) × (at.written ≤ length lines.old) }
     ensures { result ≤ length lines.new }
 {
-    let stage = at.stage;
-    let written = at.written;
-    written + finish(stage, arrived - at.taken, &mut lines[written..])
+    at.written + finish(at.stage, arrived - at.taken, &mut lines[at.written..])
 }
 
-// The input in pieces of one byte and so many more, and its end. Returns how many bytes were written.
+// The input in pieces of one byte and so many more, and its end. Returns how many bytes were written. A session is fed all that
+// has arrived and was not taken, so the loop goes over where the pieces end, and not over the pieces.
 fn answer(
     at: Standing,
     frame: &[f64],
@@ -146,7 +101,7 @@ fn answer(
     let mut standing = at;
     let mut arrived: usize = 0;
     while arrived < input.len() {
-        arrived += least(more, input.len() - arrived - 1) + 1;
+        arrived += more.min(input.len() - arrived - 1) + 1;
         standing = step(standing, frame, face, sphere, &input[..arrived], lines);
     }
     end(standing, arrived, lines)
@@ -159,78 +114,61 @@ fn run_session(input: &[u8], more: usize, lines: &mut [u8]) -> usize
     let mut face = [0.0; FACE_STORE];
     let mut sphere = [0.0; SPHERE_STORE];
     let begun = begin(&mut frame, &mut face, &mut sphere, lines);
-    let stage = begun.stage;
     let at = Standing {
-        stage,
+        stage: begun.stage,
         taken: 0,
         written: begun.written,
     };
     answer(at, &frame, &mut face, &mut sphere, input, more, lines)
 }
 
-// 1 where the lines of a run are not the stored ones, which is then said, and 0 otherwise.
-fn differs<W: Write>(
+// Whether the lines of a run are the stored ones.
+fn agrees(input: &[u8], stored: &[u8], more: usize) -> bool {
+    let mut lines = [0u8; ROOM];
+    let written = run_session(input, more, &mut lines);
+    &lines[..written] == stored
+}
+
+// How many of a session's four runs differ; none where there is no session more.
+fn replay_next<R: Read, W: Write>(
+    alloc: Global,
+    from: &mut R,
     to: &mut W,
-    number: u64,
-    input: &[u8],
-    stored: &[u8],
-    more: usize,
-) -> io::Result<u64>
-    ensures { IfOk result (λ n. n ≤ 1) }
-{
-    let mut lines = room();
-    let n = run_session(input, more, &mut lines);
-    if &lines[..n] == stored {
-        return Ok(0);
+    number: u32,
+) -> io::Result<Option<u64>> {
+    let Some(input) = read_part(alloc, from, to)? else {
+        return Ok(None);
+    };
+    let Some(stored) = read_part(alloc, from, to)? else {
+        return Ok(None);
+    };
+    let mut differ: u64 = 0;
+    for more in MORE {
+        if !agrees(&input, &stored, more) {
+            differ = differ.wrapping_add(1);
+            writeln!(to, "session {number} differs in pieces of 1 byte and {more} more")?;
+        }
     }
-    writeln!(
-        to,
-        "session {number} differs in pieces of 1 byte and {more} more"
-    )?;
-    Ok(1)
+    Ok(Some(differ))
 }
 
-// How many of a session's four runs differ; 5 where there is no session more.
-fn replay_next<R: Read, W: Write>(from: &mut R, to: &mut W, number: u64) -> io::Result<u64>
-    ensures { IfOk result (λ n. n ≤ 5) }
-{
-    let mut input = room();
-    let mut stored = room();
-    let part = read_part(from, to, &mut input)?;
-    let lines = read_part(from, to, &mut stored)?;
-    if !part.is_there || !lines.is_there {
-        return Ok(5);
+// Nothing says that the list ends, so no more than so many sessions are read.
+fn run<R: Read, W: Write>(alloc: Global, from: &mut R, to: &mut W) -> io::Result<()> {
+    let mut compared: u32 = 0;
+    let mut differ: u64 = 0;
+    for number in 0..u32::MAX {
+        let Some(runs) = replay_next(alloc, from, to, number)? else {
+            break;
+        };
+        compared = number + 1;
+        differ = differ.wrapping_add(runs);
     }
-    let n = part.count;
-    let m = lines.count;
-    Ok(
-        differs(to, number, &input[..n], &stored[..m], 0)?
-            + differs(to, number, &input[..n], &stored[..m], 2)?
-            + differs(to, number, &input[..n], &stored[..m], 9)?
-            + differs(to, number, &input[..n], &stored[..m], 4095)?,
-    )
-}
-
-fn report<W: Write>(to: &mut W, compared: u64, differ: u64) -> io::Result<()> {
     writeln!(
         to,
         "{compared} sessions compared, each cut in 4 ways; {differ} runs differ"
     )
 }
 
-// Nothing says that the list ends, so the loop counts its sessions up to more than any list has.
-fn run<R: Read, W: Write>(from: &mut R, to: &mut W) -> io::Result<()> {
-    let mut compared: u64 = 0;
-    let mut differ: u64 = 0;
-    let mut d: u64 = replay_next(from, to, 0)?;
-    while compared < 0xffff_ffff && d < 5 {
-        compared += 1;
-        differ += d;
-        d = replay_next(from, to, compared)?;
-    }
-    report(to, compared, differ)
-}
-
 fn main(rt: HostRuntime) -> io::Result<()> {
-    run(&mut rt.stdin(), &mut rt.stdout())
+    run(rt.alloc(), &mut rt.stdin(), &mut rt.stdout())
 }

@@ -2,133 +2,102 @@
 // each of them the whole set is compared with what it should hold. oracle/README.md has the records.
 #![tactic(auto)]
 
-mod ask;
-mod lent;
 mod notes;
-mod set_up;
 
-use crate::notes::NOTES;
-use replay::outcome::{Outcome, refused};
-use replay::record::{Head, Next};
-use replay::{record, report};
-use replay_sets::compare;
-use replay_sets::given::done;
-use replay_sets::places::{FACE_STORE, FRAME, NO_SUCH_PLACE, SPHERE_STORE};
+use crate::notes::{NOTES, frame_at, table};
+use nearest_calls::nearest_with;
+use open_calls::open_with;
+use replay::function::Function;
+use replay::outcome::{Outcome, done, told, whole};
+use replay::record::Record;
+use replay_arguments::{answers, face, lon_lat, spherical};
+use replay_sets::asked::{Asked, OPEN, origin, placed};
+use replay_sets::noted::{Lent, Set};
+use replay_sets::run::{Kinds, run};
 use std::io;
-use std::io::{Read, Write};
+use table_calls::{forward_with, inverse_with, place_with, unplace_with};
+
+// After the calls that have the same numbers without a table.
+const NEAREST: u8 = 7;
 
 // The number that the comparisons of the set are counted under. No record has it.
 const BUFFERS: u8 = 8;
 
-// A call with a table on the first numbers of the three buffers, as many as are lent.
-fn call(
-    number: u8,
-    table: [f64; 84],
-    frame: &mut [f64],
-    face: &mut [f64],
-    sphere: &mut [f64],
-    words: &[u8; 96],
-) -> Outcome {
-    let lent = lent::of_record(number, words);
-    if lent.frame > frame.len() as u64 || lent.face > face.len() as u64 {
-        return refused(NO_SUCH_PLACE);
+// The call with a number and a table, on the buffers that are lent, at a record's arguments.
+fn call(number: u8, table: [f64; 84], lent: Lent<'_>, record: &Record) -> Outcome {
+    let Lent {
+        frame,
+        face: face_store,
+        sphere,
+    } = lent;
+    match number {
+        1 => told(
+            forward_with(table, frame, face_store, sphere, spherical(record, 0), origin(record)),
+            answers::face,
+        ),
+        2 => told(
+            inverse_with(table, frame, face_store, sphere, face(record, 0), origin(record)),
+            answers::spherical,
+        ),
+        3 => told(
+            place_with(table, frame, face_store, sphere, lon_lat(record)),
+            placed,
+        ),
+        4 => told(
+            unplace_with(table, frame, face_store, sphere, face(record, 0), origin(record)),
+            answers::lon_lat,
+        ),
+        NEAREST => told(nearest_with(table, spherical(record, 0)), |id| {
+            whole(u64::from(id))
+        }),
+        _ => told(open_with(table, frame, face_store, sphere), done),
     }
-    if lent.sphere > sphere.len() as u64 {
-        return refused(NO_SUCH_PLACE);
-    }
-    ask::call(
-        lent.call,
-        table,
-        &mut frame[..lent.frame as usize],
-        &mut face[..lent.face as usize],
-        &mut sphere[..lent.sphere as usize],
-        words,
-    )
 }
 
-fn outcome(
-    head: Head,
-    frame: &mut [f64],
-    face: &mut [f64],
-    sphere: &mut [f64],
-    notes: &mut [f64],
-    words: &[u8; 96],
-) -> Outcome {
-    if head.number > BUFFERS {
-        return done(set_up::record(head.number, frame, face, sphere, notes, words));
+// A call on the first numbers of the three buffers, as many as are lent. The table's number is the record's last argument. Before
+// an open that should answer, it is noted what it should leave.
+fn called(set: &mut Set, record: &Record) -> Option<Outcome> {
+    let number = record.word(usize::from(record.head.arguments.saturating_sub(1)));
+    if record.head.number == OPEN && record.head.status == 0 {
+        set.opened(frame_at(number))?;
     }
-    let table = lent::table(words, head.arguments);
-    if set_up::before_call(head, table, notes) {
-        let rows = notes::table(notes, table);
-        return call(head.number, rows, frame, face, sphere, words);
-    }
-    refused(NO_SUCH_PLACE)
+    let rows = table(&set.notes, number);
+    let asked = Asked::of(record);
+    let lent = set.lend(asked.lengths)?;
+    Some(call(asked.call, rows, lent, record))
 }
 
-// Reads one record and replays it. Answers whether there was one.
-fn replay_next<R: Read, W: Write>(
-    from: &mut R,
-    to: &mut W,
-    names: &[u8],
-    takes: &[u8],
-    frame: &mut [f64; FRAME],
-    face: &mut [f64; FACE_STORE],
-    sphere: &mut [f64; SPHERE_STORE],
-    notes: &mut [f64; NOTES],
-    compared: &mut [u64; 32],
-    differ: &mut [u64; 32],
-) -> io::Result<bool> {
-    let mut words = [0u8; 96];
-    let next = record::read(from, to, takes, &mut words)?;
-    let Next::Record(head) = next else {
-        return Ok(false);
-    };
-    let given = outcome(head, frame, face, sphere, notes, &words);
-    replay_tally::compare(to, names, head, &words, given, compared, differ)?;
-    if head.number < BUFFERS {
-        let wrong = compare::wrong(frame, face, sphere, notes);
-        compare::count(to, names, BUFFERS, wrong, compared, differ)?;
+// The outcome of a record; none where a place that it names is not there.
+fn outcome(set: &mut Set, record: &Record) -> Option<Outcome> {
+    match record.head.number {
+        0..=BUFFERS => called(set, record),
+        9 => set.note(record).map(done),
+        10 => set.fill_all(record).map(done),
+        11 => set.put(record).map(done),
+        _ => set.keep_faces(record).map(done),
     }
-    Ok(true)
 }
 
-// Nothing says that the input ends, so the loop counts its records down from more than any list has.
-fn run<R: Read, W: Write>(from: &mut R, to: &mut W, names: &[u8], takes: &[u8]) -> io::Result<()> {
-    let mut frame = [0.0; FRAME];
-    let mut face = [0.0; FACE_STORE];
-    let mut sphere = [0.0; SPHERE_STORE];
-    let mut notes = [0.0; NOTES];
-    let mut compared = [0u64; 32];
-    let mut differ = [0u64; 32];
-    let mut left: u32 = 0xffff_ffff;
-    while left > 0
-        && replay_next(
-            from,
-            to,
-            names,
-            takes,
-            &mut frame,
-            &mut face,
-            &mut sphere,
-            &mut notes,
-            &mut compared,
-            &mut differ,
-        )?
-    {
-        left -= 1;
-    }
-    if left == 0 {
-        report::too_long(to)?;
-    }
-    report::summaries(to, names, BUFFERS, &compared, &differ)
-}
-
-// The records' names and how many arguments each has, by their numbers, from 1.
 fn main(rt: HostRuntime) -> io::Result<()> {
-    run(
-        &mut rt.stdin(),
-        &mut rt.stdout(),
-        b" forward_with inverse_with place_with unplace_with open_with lent nearest_with buffers note fill put keep",
-        b"0443448304342",
-    )
+    let functions = [
+        Function::new("forward_with", 4),
+        Function::new("inverse_with", 4),
+        Function::new("place_with", 3),
+        Function::new("unplace_with", 4),
+        Function::new("open_with", 4),
+        Function::new("lent", 8),
+        Function::new("nearest_with", 3),
+        Function::new("buffers", 0),
+        Function::new("note", 4),
+        Function::new("fill", 3),
+        Function::new("put", 4),
+        Function::new("keep", 2),
+    ];
+    let kinds = Kinds {
+        functions: &functions,
+        buffers: BUFFERS,
+        last: BUFFERS,
+    };
+    let mut set = Set::new(rt.alloc(), NOTES)?;
+    run(&mut rt.stdin(), &mut rt.stdout(), kinds, &mut set, outcome)
 }

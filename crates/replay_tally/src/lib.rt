@@ -117,9 +117,10 @@ impl<'a> Tally<'a> {
         Ok(())
     }
 
-    // A line for each function.
-    pub fn report<W: Write>(&self, to: &mut W) -> io::Result<()> {
-        for (function, count) in self.functions.iter().zip(&self.counts[1..]) {
+    // A line for each function, up to and with the last.
+    pub fn report<W: Write>(&self, to: &mut W, last: u8) -> io::Result<()> {
+        let counts = self.counts[1..].iter().take(usize::from(last));
+        for (function, count) in self.functions.iter().zip(counts) {
             let name = function.name;
             writeln!(to, "{name} {count}")?;
         }
@@ -140,11 +141,11 @@ pub fn run<R: Read, W: Write, F: FnMut(&Record) -> Outcome>(
     let mut tally = Tally::new(functions);
     for _ in 0..u32::MAX {
         let Some(record) = record::read(from, to, functions)? else {
-            return tally.report(to);
+            return tally.report(to, u8::MAX);
         };
         let given = ask(&record);
         tally.compare(to, &record, given)?;
     }
     report::too_long(to)?;
-    tally.report(to)
+    tally.report(to, u8::MAX)
 }

@@ -26,10 +26,10 @@ pub fn run<R: Read, W: Write, F: FnMut(&mut R) -> io::Result<Replayed>>(
     let mut tally = Tally::new(lines);
     for number in 0..u32::MAX {
         match replay(from)? {
-            Replayed::Ended => return tally.report(to),
+            Replayed::Ended => return tally.report(to, u8::MAX),
             Replayed::CutOff => {
                 report::cut_off(to)?;
-                return tally.report(to);
+                return tally.report(to, u8::MAX);
             }
             Replayed::Compared { line, agrees } => {
                 tally.count(line, agrees);
@@ -40,5 +40,5 @@ pub fn run<R: Read, W: Write, F: FnMut(&mut R) -> io::Result<Replayed>>(
         }
     }
     report::too_long(to)?;
-    tally.report(to)
+    tally.report(to, u8::MAX)
 }

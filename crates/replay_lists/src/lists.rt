@@ -1,0 +1,67 @@
+// The positions that are placed, and their results.
+use answer::bits;
+use coordinates::base::Degrees;
+use coordinates::lonlat::LonLat;
+use place_list::PlaceResult;
+use replay::outcome::Outcome;
+use replay::record::Record;
+use std::alloc::{AllocError, Global};
+
+// How many positions and results there are.
+const MOST: usize = 400;
+
+// A call is lent the first of each.
+#[derive(Drop)]
+pub struct Lists {
+    pub positions: Vec<LonLat>,
+    pub results: Vec<PlaceResult>,
+}
+
+// What a result holds before a call.
+const BLANK: PlaceResult = PlaceResult {
+    refusal: 165,
+    origin: 90,
+    x: 0.5,
+    y: -0.5,
+};
+
+impl Lists {
+    pub fn new(alloc: Global) -> Result<Lists, AllocError> {
+        let origin = LonLat {
+            longitude: Degrees(0.0),
+            latitude: Degrees(0.0),
+        };
+        Ok(Lists {
+            positions: vec![in alloc; origin; MOST]?,
+            results: vec![in alloc; BLANK; MOST]?,
+        })
+    }
+
+    // Every result as it is before a call.
+    pub fn clear(&mut self) {
+        self.results.fill(BLANK);
+    }
+
+    // A position's number, longitude and latitude.
+    pub fn put_position(&mut self, record: &Record) -> Option<()> {
+        let position = self.positions.get_mut(record.word(0) as usize)?;
+        *position = LonLat {
+            longitude: Degrees(record.argument(1)),
+            latitude: Degrees(record.argument(2)),
+        };
+        Some(())
+    }
+
+    // All four fields of a result, also where it is refused.
+    pub fn result(&self, record: &Record) -> Option<Outcome> {
+        let result = self.results.get(record.word(0) as usize)?;
+        Some(Outcome {
+            status: result.refusal,
+            answers: [
+                Some(u64::from(result.origin)),
+                Some(bits(result.x)),
+                Some(bits(result.y)),
+            ],
+        })
+    }
+}

@@ -1,0 +1,75 @@
+// The positions of an outline, and what a region leaves: their points and the box round them.
+use caption_box::CaptionBox;
+use coordinates::base::Degrees;
+use coordinates::coords::Face;
+use coordinates::lonlat::LonLat;
+use coordinates::vec2::Vec2;
+use replay::outcome::{Outcome, answered};
+use answer::bits;
+use replay::record::Record;
+use replay_arguments::answers;
+use std::alloc::{AllocError, Global};
+
+// How many positions and points there are.
+const MOST: usize = 300;
+
+// A call is lent the first positions and the first points. The box is that of the last region that was answered.
+#[derive(Drop)]
+pub struct Outline {
+    pub positions: Vec<LonLat>,
+    pub points: Vec<Face>,
+    pub bounds: CaptionBox,
+}
+
+// What a point holds before a call.
+const BLANK: Face = Face(Vec2 { x: 0.5, y: -0.5 });
+
+impl Outline {
+    pub fn new(alloc: Global) -> Result<Outline, AllocError> {
+        let origin = LonLat {
+            longitude: Degrees(0.0),
+            latitude: Degrees(0.0),
+        };
+        Ok(Outline {
+            positions: vec![in alloc; origin; MOST]?,
+            points: vec![in alloc; BLANK; MOST]?,
+            bounds: CaptionBox::new(),
+        })
+    }
+
+    // Every point as it is before a call.
+    pub fn clear(&mut self) {
+        self.points.fill(BLANK);
+    }
+
+    // A position's number, longitude and latitude.
+    pub fn put_position(&mut self, record: &Record) -> Option<()> {
+        let position = self.positions.get_mut(record.word(0) as usize)?;
+        *position = LonLat {
+            longitude: Degrees(record.argument(1)),
+            latitude: Degrees(record.argument(2)),
+        };
+        Some(())
+    }
+
+    // A point, also one that was not written.
+    pub fn point(&self, record: &Record) -> Option<Outcome> {
+        let point = self.points.get(record.word(0) as usize)?;
+        Some(answers::face(*point))
+    }
+
+    // Half of the box: 0 for the sides of x, 1 for those of y; and whether it is empty.
+    pub fn half(&self, record: &Record) -> Option<Outcome> {
+        let bounds = self.bounds;
+        let (least, greatest) = match record.word(0) {
+            0 => (bounds.least_x, bounds.greatest_x),
+            1 => (bounds.least_y, bounds.greatest_y),
+            _ => return None,
+        };
+        Some(answered([
+            Some(bits(least)),
+            Some(bits(greatest)),
+            Some(u64::from(bounds.empty)),
+        ]))
+    }
+}
