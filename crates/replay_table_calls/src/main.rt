@@ -32,11 +32,25 @@ fn call(number: u8, table: [f64; 84], lent: Lent<'_>, record: &Record) -> Outcom
     } = lent;
     match number {
         1 => told(
-            forward_with(table, frame, face_store, sphere, spherical(record, 0), origin(record)),
+            forward_with(
+                table,
+                frame,
+                face_store,
+                sphere,
+                spherical(record, 0),
+                origin(record),
+            ),
             answers::face,
         ),
         2 => told(
-            inverse_with(table, frame, face_store, sphere, face(record, 0), origin(record)),
+            inverse_with(
+                table,
+                frame,
+                face_store,
+                sphere,
+                face(record, 0),
+                origin(record),
+            ),
             answers::spherical,
         ),
         3 => told(
@@ -44,7 +58,14 @@ fn call(number: u8, table: [f64; 84], lent: Lent<'_>, record: &Record) -> Outcom
             placed,
         ),
         4 => told(
-            unplace_with(table, frame, face_store, sphere, face(record, 0), origin(record)),
+            unplace_with(
+                table,
+                frame,
+                face_store,
+                sphere,
+                face(record, 0),
+                origin(record),
+            ),
             answers::lon_lat,
         ),
         NEAREST => told(nearest_with(table, spherical(record, 0)), |id| {
