@@ -41,8 +41,11 @@ fn placed(set: &mut Set, lists: &mut Lists, record: &Record) -> Option<Outcome> 
         sphere,
     } = set.lend(lengths(record, 2))?;
     lists.clear();
-    let positions = lists.positions.get(..record.word(0) as usize)?;
-    let results = lists.results.get_mut(..record.word(1) as usize)?;
+    let positions = lists.positions.as_slice().get(..record.word(0) as usize)?;
+    let results = lists
+        .results
+        .as_mut_slice()
+        .get_mut(..record.word(1) as usize)?;
     let given = if record.head.number == WITH {
         place_list_with(rows, frame, face, sphere, positions, results)
     } else {

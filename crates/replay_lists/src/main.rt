@@ -52,7 +52,11 @@ fn main(rt: HostRuntime) -> io::Result<()> {
     };
     let mut set = Set::new(rt.alloc(), ask::NOTES)?;
     let mut lists = Lists::new(rt.alloc())?;
-    run(&mut rt.stdin(), &mut rt.stdout(), kinds, &mut set, |set, record| {
-        outcome(set, &mut lists, record)
-    })
+    run(
+        &mut rt.stdin(),
+        &mut rt.stdout(),
+        kinds,
+        &mut set,
+        |set, record| { outcome(set, &mut lists, record) },
+    )
 }

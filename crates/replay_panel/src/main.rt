@@ -4,14 +4,17 @@
 // status, names each record that differs, and says so where the list is malformed.
 #![tactic(auto)]
 
-mod tables;
+ghost use Rattle.std.specs.Prelude.{◌<◌};
 
-ghost use Rattle.std.specs.Prelude.{◌<◌, ◌≤◌};
-
+use answer::Refusal;
 use open_calls::{open, open_with};
 use panel_step::step;
 use replay::function::Function;
+use replay::pattern::value;
 use replay::record::read_full;
+use replay_sets::noted::{Lent, Set};
+use replay_sets::tables;
+use replay_sets::tables::TABLES;
 use replay_tally::lines;
 use replay_tally::lines::Replayed;
 use set::sizes::{FACE_STORE, FRAME, SPHERE_STORE};
@@ -27,52 +30,60 @@ const AFTER_AT: usize = BLOCK_AT + 34;
 
 const SIZE: usize = AFTER_AT + 34;
 
-// The set that the steps are carried out on, and the tables that the records name.
-#[derive(Drop)]
-struct Panel {
-    frame: [f64; FRAME],
-    face: [f64; FACE_STORE],
-    sphere: [f64; SPHERE_STORE],
-    tables: [[f64; 84]; tables::COUNT],
+// The next number of a table; 0.0 where the list has ended, and then no record follows.
+fn number<R: Read>(from: &mut R) -> io::Result<f64> {
+    let mut bytes = [0u8; 8];
+    if read_full(from, &mut bytes)? < bytes.len() {
+        return Ok(0.0);
+    }
+    Ok(value(u64::from_be_bytes(bytes)))
 }
 
 // How many numbers of a buffer are lent: all, or where its bit is set all but the last.
-fn lent(count: usize, short: u8, bit: u8) -> usize
+fn lent(count: usize, short: u8, bit: u8) -> u64
     requires { 0 < count }
-    ensures { result ≤ count }
 {
-    if short & bit == 0 { count } else { count - 1 }
+    let numbers = if short & bit == 0 { count } else { count - 1 };
+    numbers as u64
 }
 
 // Does what is asked, on the bytes of the block that are lent: 0 is a step, 1 a step with a table, and 2 that the set is opened with
-// a table. The status: 0, or the refusal's number. A table that there is not is zeros, which every call refuses.
-fn ask(panel: &mut Panel, asked: u8, number: u8, short: u8, block: &mut [u8]) -> u8 {
-    let Panel {
+// a table. A table that there is not is zeros, which every call refuses. None where the set is not there.
+fn ask(
+    set: &mut Set,
+    asked: u8,
+    table: u8,
+    short: u8,
+    block: &mut [u8],
+) -> Option<Result<(), Refusal>> {
+    let rows = tables::table(&set.notes, 0, u64::from(table));
+    let Lent {
         frame,
         face,
         sphere,
-        tables,
-    } = panel;
-    let table = tables.get(usize::from(number)).copied().unwrap_or([0.0; 84]);
-    let frame = &mut frame[..lent(FRAME, short, 1)];
-    let face = &mut face[..lent(FACE_STORE, short, 2)];
-    let sphere = &mut sphere[..lent(SPHERE_STORE, short, 4)];
-    answer::status(match asked {
+    } = set.lend([
+        lent(FRAME, short, 1),
+        lent(FACE_STORE, short, 2),
+        lent(SPHERE_STORE, short, 4),
+    ])?;
+    Some(match asked {
         0 => step(frame, face, sphere, block),
-        1 => step_with(table, frame, face, sphere, block),
-        _ => open_with(table, frame, face, sphere),
+        1 => step_with(rows, frame, face, sphere, block),
+        _ => open_with(rows, frame, face, sphere),
     })
 }
 
 // Does what a record asks where the block stands in it, and says whether the status and the block are then the stored ones.
-fn agrees(panel: &mut Panel, record: &mut [u8; SIZE]) -> bool {
-    let [asked, number, short, count, due, ..] = *record;
+fn agrees(set: &mut Set, record: [u8; SIZE]) -> bool {
+    let mut record = record;
+    let [asked, table, short, count, due, ..] = record;
     let end = BLOCK_AT + usize::from(count);
     if end > AFTER_AT {
         return false;
     }
-    let given = ask(panel, asked, number, short, &mut record[BLOCK_AT..end]);
-    given == due && record[BLOCK_AT..AFTER_AT] == record[AFTER_AT..]
+    let given = ask(set, asked, table, short, &mut record[BLOCK_AT..end]);
+    given.is_some_and(|outcome| answer::status(outcome) == due)
+        && record[BLOCK_AT..AFTER_AT] == record[AFTER_AT..]
 }
 
 // The line of what was asked and its stored status: carried out, and then refused.
@@ -82,17 +93,21 @@ fn line(asked: u8, due: u8) -> usize {
         1 => 3,
         _ => 5,
     };
-    if due == 0 { carried_out } else { carried_out + 1 }
+    if due == 0 {
+        carried_out
+    } else {
+        carried_out + 1
+    }
 }
 
 // Reads one record and replays it.
-fn replay_next<R: Read>(from: &mut R, panel: &mut Panel) -> io::Result<Replayed> {
+fn replay_next<R: Read>(from: &mut R, set: &mut Set) -> io::Result<Replayed> {
     let mut record = [0u8; SIZE];
     Ok(match read_full(from, &mut record)? {
         0 => Replayed::Ended,
         SIZE => Replayed::Compared {
             line: line(record[0], record[4]),
-            agrees: agrees(panel, &mut record),
+            agrees: agrees(set, record),
         },
         _ => Replayed::CutOff,
     })
@@ -108,15 +123,16 @@ fn main(rt: HostRuntime) -> io::Result<()> {
         Function::new("open_with_refused", 0),
     ];
     let mut input = rt.stdin();
-    let mut panel = Panel {
-        frame: [0.0; FRAME],
-        face: [0.0; FACE_STORE],
-        sphere: [0.0; SPHERE_STORE],
-        tables: tables::read(&mut input)?,
-    };
-    // Where it is not opened, the records differ.
-    let _given = open(&mut panel.frame, &mut panel.face, &mut panel.sphere);
+    // The tables stand in the set's notes.
+    let mut set = Set::new(rt.alloc(), TABLES)?;
+    for x in set.notes.iter_mut() {
+        *x = number(&mut input)?;
+    }
+    if let Some(lent) = set.lend([FRAME as u64, FACE_STORE as u64, SPHERE_STORE as u64]) {
+        // Where it is not opened, the records differ.
+        let _given = open(lent.frame, lent.face, lent.sphere);
+    }
     lines::run(&mut input, &mut rt.stdout(), &lines, |from| {
-        replay_next(from, &mut panel)
+        replay_next(from, &mut set)
     })
 }

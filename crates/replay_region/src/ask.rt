@@ -40,8 +40,11 @@ fn outlined(set: &mut Set, outline: &mut Outline, record: &Record) -> Option<Out
         sphere,
     } = set.lend(lengths(record, 2))?;
     outline.clear();
-    let positions = outline.positions.get(..record.word(0) as usize)?;
-    let points = outline.points.get_mut(..record.word(1) as usize)?;
+    let positions = outline.positions.as_slice().get(..record.word(0) as usize)?;
+    let points = outline
+        .points
+        .as_mut_slice()
+        .get_mut(..record.word(1) as usize)?;
     let given = if record.head.number == WITH {
         region_with(rows, frame, face, sphere, positions, points)
     } else {

@@ -54,7 +54,11 @@ fn main(rt: HostRuntime) -> io::Result<()> {
     };
     let mut set = Set::new(rt.alloc(), ask::NOTES)?;
     let mut outline = Outline::new(rt.alloc())?;
-    run(&mut rt.stdin(), &mut rt.stdout(), kinds, &mut set, |set, record| {
-        outcome(set, &mut outline, record)
-    })
+    run(
+        &mut rt.stdin(),
+        &mut rt.stdout(),
+        kinds,
+        &mut set,
+        |set, record| { outcome(set, &mut outline, record) },
+    )
 }

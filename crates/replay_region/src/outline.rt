@@ -1,11 +1,11 @@
 // The positions of an outline, and what a region leaves: their points and the box round them.
+use answer::bits;
 use caption_box::CaptionBox;
 use coordinates::base::Degrees;
 use coordinates::coords::Face;
 use coordinates::lonlat::LonLat;
 use coordinates::vec2::Vec2;
 use replay::outcome::{Outcome, answered};
-use answer::bits;
 use replay::record::Record;
 use replay_arguments::answers;
 use std::alloc::{AllocError, Global};

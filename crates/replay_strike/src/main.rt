@@ -34,7 +34,11 @@ fn malformed<W: Write>(to: &mut W) -> io::Result<()> {
 }
 
 // Reads a part: its length in two bytes, and so many bytes. None where the list has ended, or is malformed, which is then said.
-fn read_part<R: Read, W: Write>(alloc: Global, from: &mut R, to: &mut W) -> io::Result<Option<Vec<u8>>> {
+fn read_part<R: Read, W: Write>(
+    alloc: Global,
+    from: &mut R,
+    to: &mut W,
+) -> io::Result<Option<Vec<u8>>> {
     let mut size = [0u8; 2];
     let read = read_full(from, &mut size)?;
     if read == 0 {
@@ -146,7 +150,10 @@ fn replay_next<R: Read, W: Write>(
     for more in MORE {
         if !agrees(&input, &stored, more) {
             differ = differ.wrapping_add(1);
-            writeln!(to, "session {number} differs in pieces of 1 byte and {more} more")?;
+            writeln!(
+                to,
+                "session {number} differs in pieces of 1 byte and {more} more"
+            )?;
         }
     }
     Ok(Some(differ))
