@@ -39,12 +39,34 @@ fn number<R: Read>(from: &mut R) -> io::Result<f64> {
     Ok(value(u64::from_be_bytes(bytes)))
 }
 
+// The numbers of all tables.
+fn read<R: Read>(from: &mut R, tables: &mut [f64]) -> io::Result<()> {
+    for x in tables {
+        *x = number(from)?;
+    }
+    Ok(())
+}
+
 // How many numbers of a buffer are lent: all, or where its bit is set all but the last.
 fn lent(count: usize, short: u8, bit: u8) -> u64
     requires { 0 < count }
 {
     let numbers = if short & bit == 0 { count } else { count - 1 };
     numbers as u64
+}
+
+// Opens the set. Where it is not opened, the records differ.
+fn open_set(set: &mut Set) {
+    if let Some(
+        Lent {
+            frame,
+            face,
+            sphere,
+        },
+    ) = set.lend([FRAME as u64, FACE_STORE as u64, SPHERE_STORE as u64])
+    {
+        let _given = open(frame, face, sphere);
+    }
 }
 
 // Does what is asked, on the bytes of the block that are lent: 0 is a step, 1 a step with a table, and 2 that the set is opened with
@@ -125,13 +147,8 @@ fn main(rt: HostRuntime) -> io::Result<()> {
     let mut input = rt.stdin();
     // The tables stand in the set's notes.
     let mut set = Set::new(rt.alloc(), TABLES)?;
-    for x in set.notes.iter_mut() {
-        *x = number(&mut input)?;
-    }
-    if let Some(lent) = set.lend([FRAME as u64, FACE_STORE as u64, SPHERE_STORE as u64]) {
-        // Where it is not opened, the records differ.
-        let _given = open(lent.frame, lent.face, lent.sphere);
-    }
+    read(&mut input, &mut set.notes)?;
+    open_set(&mut set);
     lines::run(&mut input, &mut rt.stdout(), &lines, |from| {
         replay_next(from, &mut set)
     })
