@@ -1,52 +1,80 @@
--- A C function with a table, by the table's length: refused with 20, or what the call with that table gives. Assumes nothing.
-use mathlib.Core.Path.{◌≡◌, sym, ap, ◌∙◌, subst}
-use mathlib.Core.Bool.{true, false}
+-- A C function with a table, by what `rows` gives of it: the rows, which are then the table, or 20. Assumes nothing.
+--     rows_fit, rows_are, rows_off, rows_20   what either says of the table
+--     with_rows, no_rows                      what a call with the table comes to
+--     returns_with_rows, returns_20           the same as the statement of a call on a set
+use mathlib.Core.Path.{◌≡◌, refl, sym, ap, ◌∙◌, subst}
+use mathlib.Core.Bool.{Bool, true, false, not}
 use mathlib.Core.List.{List}
 use Prim.Native.Nat.{ℕ}
 use lib.Dec.{eqb}
 use lib.Ieee.{Float}
 use lib.ListN.{length}
 use denote.Triple.Both.{Both}
-use Rattle.answer.specs.Given.{Given, refused}
+use Rattle.answer.specs.Given.{Given, answered, refused, refuse_if}
 use Rattle.border.specs.Returns.{Returns, ReturnsOn}
 use Rattle.border.proofs.Returns.{returns_refusal}
 use Rattle.set.specs.Set.{Set}
 use Rattle.set.specs.Outcome.{Outcome}
-use Rattle.border.specs.Tables.{with_table, with_table_on}
+use Rattle.border.specs.Tables.{rows_given, with_table, with_table_on}
+
+-- ---- by the test of the length
+fits : (b : Bool) (rows table : List Float) → answered rows ≡ refuse_if (not b) 20 (answered table) → (b ≡ true) × (rows ≡ table)
+fits true rows table e = (refl, cc)
+fits false rows table e = (cc)
+
+is_off : (b : Bool) (n : ℕ) (table : List Float) → refused n ≡ refuse_if (not b) 20 (answered table) → (b ≡ false) × (n ≡ 20)
+is_off true n table e = (cc)
+is_off false n table e = (refl, cc)
+
+module _ (table : List Float) where
+  pub rows_fit : (rows : List Float) → answered rows ≡ rows_given table → eqb (length table) 84 ≡ true
+  unfolding rows_given
+  rows_fit rows e = (fits _ rows table e).0
+
+  pub rows_are : (rows : List Float) → answered rows ≡ rows_given table → rows ≡ table
+  unfolding rows_given
+  rows_are rows e = (fits (eqb (length table) 84) rows table e).1
+
+  pub rows_off : (n : ℕ) → refused n ≡ rows_given table → eqb (length table) 84 ≡ false
+  unfolding rows_given
+  rows_off n e = (is_off _ n table e).0
+
+  pub rows_20 : (n : ℕ) → refused n ≡ rows_given table → n ≡ 20
+  unfolding rows_given
+  rows_20 n e = (is_off (eqb (length table) 84) n table e).1
 
 -- ---- a call that is lent no set
 module _ {X : Type 0} (call : List Float → Given X) (table : List Float) where
-  pub other_length : eqb (length table) 84 ≡ false → with_table call table ≡ refused 20
+  pub no_rows : (n : ℕ) → refused n ≡ rows_given table → with_table call table ≡ refused n
   unfolding with_table
-  other_length e = rw e
+  no_rows n e = rw (rows_off table n e, rows_20 table n e)
 
-  -- the rows that are handed over are the table
-  pub rows_of : (rows : List Float) → eqb (length table) 84 ≡ true → rows ≡ table → with_table call table ≡ call rows
+  pub with_rows : (rows : List Float) → answered rows ≡ rows_given table → with_table call table ≡ call rows
   unfolding with_table
-  rows_of rows e copied = rw (e, copied)
+  with_rows rows e = rw (rows_fit table rows e, rows_are table rows e)
 
 -- ---- a call on a set
 module _ {X : Type 0} (call : List Float → Set → Outcome X) (table : List Float) (s : Set) where
-  pub other_length_on : eqb (length table) 84 ≡ false → with_table_on call table s ≡ record { answer = refused 20; set = s }
+  pub no_rows_on : (n : ℕ) → refused n ≡ rows_given table → with_table_on call table s ≡ record { answer = refused n; set = s }
   unfolding with_table_on
-  other_length_on e = rw e
+  no_rows_on n e = rw (rows_off table n e, rows_20 table n e)
 
-  pub rows_of_on : (rows : List Float) → eqb (length table) 84 ≡ true → rows ≡ table → with_table_on call table s ≡ call rows s
+  pub with_rows_on : (rows : List Float) → answered rows ≡ rows_given table → with_table_on call table s ≡ call rows s
   unfolding with_table_on
-  rows_of_on rows e copied = rw (e, copied)
+  with_rows_on rows e = rw (rows_fit table rows e, rows_are table rows e)
 
--- its statement, by the length: nothing is written, or the call's own statement with the rows
-module _ {X L : Type 0} (set : Both Set Set) (r : ℕ) (to : Both L L) (f : X → L) (call : List Float → Set → Outcome X) (table : List Float) where
-  pub refused_20 : eqb (length table) 84 ≡ false → r ≡ 20 → to.exit ≡ to.entry → set.exit ≡ set.entry
+-- its statement: nothing is written, or the call's own statement with the rows
+module _ {X L : Type 0} {set : Both Set Set} {r : ℕ} {to : Both L L} {f : X → L} (call : List Float → Set → Outcome X) (table : List Float) where
+  pub returns_20 : (n : ℕ) → refused n ≡ rows_given table → r ≡ n → to.exit ≡ to.entry → set.exit ≡ set.entry
       → ReturnsOn set r to f (with_table_on call table)
-  refused_20 e is kept same =
-      let given = other_length_on call table set.entry e in
-      record { returns = returns_refusal 20 (ap (λ (o : Outcome X). o.answer) given) is kept; left = same ∙ sym (ap (λ (o : Outcome X). o.set) given) }
+  returns_20 n e is kept same =
+      let given = no_rows_on call table set.entry n e in
+      record { returns = returns_refusal n (ap (λ (o : Outcome X). o.answer) given) is kept; left = same ∙ sym (ap (λ (o : Outcome X). o.set) given) }
 
-  pub with_rows : (rows : List Float) → eqb (length table) 84 ≡ true → rows ≡ table → ReturnsOn set r to f (call rows)
+  pub returns_with_rows : (rows : List Float) → answered rows ≡ rows_given table → ReturnsOn set r to f (call rows)
       → ReturnsOn set r to f (with_table_on call table)
-  with_rows rows e copied known =
-      let given = sym (rows_of_on call table set.entry rows e copied) in
+  returns_with_rows rows e known =
+      let given = sym (with_rows_on call table set.entry rows e) in
       record {
         returns = subst (λ (g : Given X). Returns g r to f) (ap (λ (o : Outcome X). o.answer) given) known.returns;
         left = known.left ∙ ap (λ (o : Outcome X). o.set) given;

@@ -1,10 +1,14 @@
 -- A table at the C border, where it is a pointer and a length. Definitions only.
-use Rattle.std.specs.Prelude.{ℕ, not, cond, List, eqb, Float, length}
-use Rattle.answer.specs.Given.{Given, refused, refuse_if}
+use Rattle.std.specs.Prelude.{not, cond, List, eqb, Float, length}
+use Rattle.answer.specs.Given.{Given, answered, refused, refuse_if}
 use Rattle.set.specs.Set.{Set}
 use Rattle.set.specs.Outcome.{Outcome}
 
--- "A table reaches a call as exactly 84 numbers": one of another length gets 20, before anything else is tried
+-- "A table reaches a call as exactly 84 numbers": one of another length gets 20
+unfoldable pub rows_given : List Float → Given (List Float)
+rows_given table = refuse_if (not (eqb (length table) 84)) 20 (answered table)
+
+-- a call with a table: 20 comes before anything else is tried
 unfoldable pub with_table : {X : Type 0} → (List Float → Given X) → List Float → Given X
 with_table call table = refuse_if (not (eqb (length table) 84)) 20 (call table)
 

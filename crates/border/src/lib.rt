@@ -1,4 +1,6 @@
-// What the C functions share: the statement of one (specs/), and the numbers of a table that is lent with a length.
+// What the C functions share: the statement of one (specs/), what is told of an answer and written of it, and the numbers of a table
+// that is lent with a length.
 #![tactic(auto)]
 
+pub mod answers;
 pub mod rows;

@@ -1,16 +1,19 @@
 // The numbers of a table that is lent with a length, as the array that the calls take.
-ghost use Rattle.std.specs.Prelude.{◌≡◌, length};
+ghost use Rattle.std.specs.Prelude.{◌≡◌};
+ghost use Rattle.answer.specs.Answer.{given};
+ghost use Rattle.border.specs.Tables.{rows_given};
 
-// The 84 numbers of a table, in their order.
-pub fn rows(table: &[f64]) -> [f64; 84]
-    requires { length table.now ≡ 84 }
-    ensures { result ≡ table.now }
+use answer::Refusal;
+
+// The 84 numbers of a table, in their order; 20 for a table of another length.
+#[tactic(auto, unfolding(crate::specs::Tables::rows_given))]
+pub fn rows(table: &[f64]) -> Result<[f64; 84], Refusal>
+    ensures { given result ≡ rows_given table.now }
 {
-    let mut copied = [0.0; 84];
-    let mut i: usize = 0;
-    while i < 84 {
-        copied[i] = table[i];
-        i += 1;
+    if table.len() != 84 {
+        return Err(Refusal::TableFile);
     }
-    copied
+    let mut rows = [0.0; 84];
+    rows.copy_from_slice(table);
+    Ok(rows)
 }
