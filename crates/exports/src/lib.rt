@@ -1,6 +1,6 @@
 // The calls as C functions, for programs in other languages. Each returns 0 where the call answered,
 // and otherwise the number of its refusal (crate answer). What is lent for an answer is written where
-// the call answered, and left as it was where it refused.
+// the call answered, and left as it was where it refused (crate border).
 //
 // A slice is two arguments in C, a pointer and then how many numbers there are. An answer of two
 // numbers is lent as a reference to an array of two, in C a pointer: it has no length to be wrong.
@@ -19,12 +19,10 @@ ghost use Rattle.answer.specs.Given.{status};
 ghost use Rattle.border.specs.Returns.{Returns, contents};
 ghost use Rattle.border.specs.Calls.{id as Calls·id, angles, degrees, lon_lat, spherical};
 
+use border::answers::put;
 use coordinates::base::{Degrees, Radians};
-use coordinates::conversions::{LonLatAnswer, SphericalAnswer};
 use coordinates::lonlat::LonLat;
 use coordinates::spherical::Spherical;
-use nearest_calls::OriginAnswer;
-use set::open::OpenAnswer;
 
 // Open: writes the frame and fills both stores with 0.0.
 #[unsafe(no_mangle)]
@@ -32,11 +30,8 @@ pub extern "C" fn a5_open(frame: &mut [f64], face_store: &mut [f64], sphere_stor
     ensures answer { result ≡ status (open_on ieee ORIGINS (lent_mut frame face_store sphere_store).entry).answer }
     ensures left { Becomes (lent_mut frame face_store sphere_store) (λ s. (open_on ieee ORIGINS s).set) }
 {
-    let given = open_calls::open(frame, face_store, sphere_store);
-    match given {
-        OpenAnswer::Opened => 0,
-        OpenAnswer::Refused(n) => answer::number(n),
-    }
+    let opened = open_calls::open(frame, face_store, sphere_store);
+    answer::status(opened)
 }
 
 // Nearest: the number of the origin nearest to a position, in radians, goes to id.
@@ -44,17 +39,11 @@ pub extern "C" fn a5_open(frame: &mut [f64], face_store: &mut [f64], sphere_stor
 pub extern "C" fn a5_nearest(theta: f64, phi: f64, id: &mut u8) -> u8
     ensures { Returns (nearest_given ieee ORIGINS (spherical theta phi)) result (contents id) Calls·id }
 {
-    let given = nearest_calls::nearest(Spherical {
+    let nearest = nearest_calls::nearest(Spherical {
         theta: Radians(theta),
         phi: Radians(phi),
     });
-    match given {
-        OriginAnswer::Answered(nearest) => {
-            *id = nearest;
-            0
-        }
-        OriginAnswer::Refused(n) => answer::number(n),
-    }
+    put(nearest, id)
 }
 
 // From longitude and latitude, in degrees, to theta and phi, in radians.
@@ -62,17 +51,11 @@ pub extern "C" fn a5_nearest(theta: f64, phi: f64, id: &mut u8) -> u8
 pub extern "C" fn a5_from_lon_lat(longitude: f64, latitude: f64, to: &mut [f64; 2]) -> u8
     ensures { Returns (from_lon_lat_given ieee (lon_lat longitude latitude)) result (contents to) angles }
 {
-    let given = transforms::conversions::from_lon_lat(LonLat {
+    let position = transforms::conversions::from_lon_lat(LonLat {
         longitude: Degrees(longitude),
         latitude: Degrees(latitude),
     });
-    match given {
-        SphericalAnswer::Answered(s) => {
-            *to = [s.theta.0, s.phi.0];
-            0
-        }
-        SphericalAnswer::Refused(n) => answer::number(n),
-    }
+    put(position, to)
 }
 
 // From theta and phi, in radians, to longitude and latitude, in degrees.
@@ -80,15 +63,9 @@ pub extern "C" fn a5_from_lon_lat(longitude: f64, latitude: f64, to: &mut [f64; 
 pub extern "C" fn a5_to_lon_lat(theta: f64, phi: f64, to: &mut [f64; 2]) -> u8
     ensures { Returns (to_lon_lat_given ieee (spherical theta phi)) result (contents to) degrees }
 {
-    let given = transforms::conversions::to_lon_lat(Spherical {
+    let lonlat = transforms::conversions::to_lon_lat(Spherical {
         theta: Radians(theta),
         phi: Radians(phi),
     });
-    match given {
-        LonLatAnswer::Answered(l) => {
-            *to = [l.longitude.0, l.latitude.0];
-            0
-        }
-        LonLatAnswer::Refused(n) => answer::number(n),
-    }
+    put(lonlat, to)
 }

@@ -9,8 +9,8 @@ ghost use Rattle.dodecahedron.specs.Calls.{forward_on, inverse_on};
 ghost use Rattle.border.specs.Returns.{ReturnsOn, contents};
 ghost use Rattle.border.specs.Calls.{spherical, angles, point};
 
+use border::answers::put;
 use coordinates::base::Radians;
-use coordinates::conversions::{FaceAnswer, SphericalAnswer};
 use coordinates::coords::Face;
 use coordinates::spherical::Spherical;
 use coordinates::vec2::Vec2;
@@ -33,14 +33,8 @@ pub extern "C" fn a5_forward(
         theta: Radians(theta),
         phi: Radians(phi),
     };
-    let given = calls::forward(frame, face_store, sphere_store, position, origin);
-    match given {
-        FaceAnswer::Answered(f) => {
-            *to = [f.0.x, f.0.y];
-            0
-        }
-        FaceAnswer::Refused(n) => answer::number(n),
-    }
+    let point = calls::forward(frame, face_store, sphere_store, position, origin);
+    put(point, to)
 }
 
 // Inverse: theta and phi, in radians, of a face point on the face of an origin.
@@ -58,12 +52,6 @@ pub extern "C" fn a5_inverse(
         (λ s. inverse_on ieee ORIGINS s (face x y) origin) }
 {
     let point = Face(Vec2 { x, y });
-    let given = calls::inverse(frame, face_store, sphere_store, point, origin);
-    match given {
-        SphericalAnswer::Answered(s) => {
-            *to = [s.theta.0, s.phi.0];
-            0
-        }
-        SphericalAnswer::Refused(n) => answer::number(n),
-    }
+    let position = calls::inverse(frame, face_store, sphere_store, point, origin);
+    put(position, to)
 }

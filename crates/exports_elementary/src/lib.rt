@@ -5,19 +5,21 @@ ghost use Rattle.std.specs.Prelude.{◌≡◌};
 ghost use Rattle.std.specs.Float.{binary64};
 ghost use Rattle.std.specs.Float.Ieee.{rem};
 ghost use Rattle.arithmetic.specs.Arith.{ieee};
-ghost use Rattle.elementary.specs.Sine.{given_sine, sin_given};
+ghost use Rattle.answer.specs.Answer.{given};
+ghost use Rattle.elementary.specs.Sine.{sin_given};
 ghost use Rattle.exports_elementary.specs.Value.{value_or_nan};
 
-use elementary::sine::SineAnswer;
+use answer::Refusal;
 use remainder::remainder;
 use sine::sin;
 
-fn value(given: SineAnswer) -> f64
-    ensures { result ≡ value_or_nan (given_sine given) }
+// The value, and a NaN where there is none.
+fn value(outcome: Result<f64, Refusal>) -> f64
+    ensures { result ≡ value_or_nan (given outcome) }
 {
-    match given {
-        SineAnswer::Value(v) => v,
-        SineAnswer::Outside => 0.0 / 0.0,
+    match outcome {
+        Ok(value) => value,
+        Err(_) => 0.0 / 0.0,
     }
 }
 

@@ -27,6 +27,6 @@ pub extern "C" fn a5_place_list(
     ensures { returned result results.new (lent frame face_store sphere_store).exit
         ≡ in_c (place_list_on ieee ORIGINS (lent frame face_store sphere_store).entry positions.now results.old) }
 {
-    let given = list_calls::place_list(frame, face_store, sphere_store, positions, results);
-    answer::status(given)
+    let listed = list_calls::place_list(frame, face_store, sphere_store, positions, results);
+    answer::status(listed)
 }

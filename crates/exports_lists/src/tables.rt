@@ -21,16 +21,17 @@ pub extern "C" fn a5_place_list_with(
     ensures { returned result results.new (lent frame face_store sphere_store).exit
         ≡ in_c (list_with ieee table.now (lent frame face_store sphere_store).entry positions.now results.old) }
 {
-    if table.len() != 84 {
-        return 20;
-    }
-    let given = table_lists::place_list_with(
-        rows(table),
+    let rows = match rows(table) {
+        Ok(rows) => rows,
+        Err(refusal) => return refusal.number(),
+    };
+    let listed = table_lists::place_list_with(
+        rows,
         frame,
         face_store,
         sphere_store,
         positions,
         results,
     );
-    answer::status(given)
+    answer::status(listed)
 }

@@ -22,8 +22,8 @@ pub extern "C" fn a5_panel_step(
 ) -> u8
     ensures { StepsInC (lent frame face_store sphere_store) (lent_bytes block) result (step_on ieee ORIGINS) }
 {
-    let given = panel_step::step(frame, face_store, sphere_store, block);
-    answer::status(given)
+    let stepped = panel_step::step(frame, face_store, sphere_store, block);
+    answer::status(stepped)
 }
 
 // One step with a table: one that isn't 84 numbers long is refused with 20 before anything else is tried.
@@ -37,9 +37,10 @@ pub extern "C" fn a5_panel_step_with(
 ) -> u8
     ensures { StepsInC (lent frame face_store sphere_store) (lent_bytes block) result (step_with ieee table.now) }
 {
-    if table.len() != 84 {
-        return 20;
-    }
-    let given = table_panel::step_with(rows(table), frame, face_store, sphere_store, block);
-    answer::status(given)
+    let rows = match rows(table) {
+        Ok(rows) => rows,
+        Err(refusal) => return refusal.number(),
+    };
+    let stepped = table_panel::step_with(rows, frame, face_store, sphere_store, block);
+    answer::status(stepped)
 }

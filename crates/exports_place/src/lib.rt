@@ -9,12 +9,11 @@ ghost use Rattle.dodecahedron.specs.Calls.{place_on, unplace_on};
 ghost use Rattle.border.specs.Returns.{ReturnsOn, contents, contents_of};
 ghost use Rattle.border.specs.Calls.{lon_lat, degrees, id_and_point};
 
+use border::answers::{put, put_place};
 use coordinates::base::Degrees;
-use coordinates::conversions::LonLatAnswer;
 use coordinates::coords::Face;
 use coordinates::lonlat::LonLat;
 use coordinates::vec2::Vec2;
-use dodecahedron::place::PlaceAnswer;
 
 // Place: the number of the nearest origin, and the face point on its face, of a position in degrees.
 #[unsafe(no_mangle)]
@@ -34,15 +33,8 @@ pub extern "C" fn a5_place(
         longitude: Degrees(longitude),
         latitude: Degrees(latitude),
     };
-    let given = calls::place(frame, face_store, sphere_store, position);
-    match given {
-        PlaceAnswer::Answered(p) => {
-            *id = p.origin;
-            *to = [p.face.0.x, p.face.0.y];
-            0
-        }
-        PlaceAnswer::Refused(n) => answer::number(n),
-    }
+    let place = calls::place(frame, face_store, sphere_store, position);
+    put_place(place, id, to)
 }
 
 // Unplace: longitude and latitude, in degrees, of a face point on the face of an origin.
@@ -60,12 +52,6 @@ pub extern "C" fn a5_unplace(
         (λ s. unplace_on ieee ORIGINS s (face x y) origin) }
 {
     let point = Face(Vec2 { x, y });
-    let given = calls::unplace(frame, face_store, sphere_store, point, origin);
-    match given {
-        LonLatAnswer::Answered(l) => {
-            *to = [l.longitude.0, l.latitude.0];
-            0
-        }
-        LonLatAnswer::Refused(n) => answer::number(n),
-    }
+    let position = calls::unplace(frame, face_store, sphere_store, point, origin);
+    put(position, to)
 }

@@ -15,7 +15,7 @@ use border::rows::rows;
 use caption_box::CaptionBox;
 use coordinates::coords::Face;
 use coordinates::lonlat::LonLat;
-use region_border::{put_box, put_origin, status};
+use region_border::put_region;
 
 // A region: its points go to points, its origin to origin, and its box to caption.
 #[unsafe(no_mangle)]
@@ -32,10 +32,8 @@ pub extern "C" fn a5_region(
         ≡ in_c (region_on ieee ORIGINS (lent frame face_store sphere_store).entry positions.now points.old)
         origin.old caption.old }
 {
-    let given = region::region(frame, face_store, sphere_store, positions, points);
-    put_origin(given, origin);
-    put_box(given, caption);
-    status(given)
+    let outcome = region::region(frame, face_store, sphere_store, positions, points);
+    put_region(outcome, origin, caption)
 }
 
 // A region with a table: a table that isn't 84 numbers long is refused with 20 before anything else is tried.
@@ -54,18 +52,10 @@ pub extern "C" fn a5_region_with(
         ≡ in_c (region_with ieee table.now (lent frame face_store sphere_store).entry positions.now points.old)
         origin.old caption.old }
 {
-    if table.len() != 84 {
-        return 20;
-    }
-    let given = region::region_with(
-        rows(table),
-        frame,
-        face_store,
-        sphere_store,
-        positions,
-        points,
-    );
-    put_origin(given, origin);
-    put_box(given, caption);
-    status(given)
+    let rows = match rows(table) {
+        Ok(rows) => rows,
+        Err(refusal) => return refusal.number(),
+    };
+    let outcome = region::region_with(rows, frame, face_store, sphere_store, positions, points);
+    put_region(outcome, origin, caption)
 }

@@ -8,16 +8,17 @@ ghost use Rattle.border.specs.Returns.{Returns, contents};
 ghost use Rattle.exports_show.specs.Slots.{store_named, coordinates_at, mark, part as Slots·part};
 
 use set::sizes::{FACE_COORDINATES, FACE_WIDTH, SPHERE_COORDINATES, SPHERE_WIDTH};
-use show::{SlotState, StoreKind};
+use show::StoreKind;
 
 // 0 names the face store and every other number the sphere store, as C reads a truth value:
 // document 01 has no refusal for a kind that is neither.
+#[tactic(auto, unfolding(crate::specs::Slots::store_named))]
 fn store_named(kind: u8) -> StoreKind
     ensures { result ≡ store_named kind }
 {
-    match kind == 0 {
-        true => StoreKind::Face,
-        false => StoreKind::Sphere,
+    match kind {
+        0 => StoreKind::Face,
+        _ => StoreKind::Sphere,
     }
 }
 
@@ -36,15 +37,15 @@ pub extern "C" fn a5_slot_state(
     let named = store_named(kind);
     let given = show::slot_state(face_store, sphere_store, named, slot);
     match given {
-        SlotState::Filled => {
+        Ok(true) => {
             *filled = 1;
             0
         }
-        SlotState::Empty => {
+        Ok(false) => {
             *filled = 0;
             0
         }
-        SlotState::Refused(n) => answer::number(n),
+        Err(refusal) => refusal.number(),
     }
 }
 
@@ -75,14 +76,14 @@ pub extern "C" fn a5_show(
     let named = store_named(kind);
     let given = show::slot_state(face_store, sphere_store, named, slot);
     match given {
-        SlotState::Filled => {
+        Ok(true) => {
             *part = coordinates(named, slot);
             0
         }
-        SlotState::Empty => {
+        Ok(false) => {
             *part = [0, 0];
             0
         }
-        SlotState::Refused(n) => answer::number(n),
+        Err(refusal) => refusal.number(),
     }
 }

@@ -10,9 +10,9 @@ ghost use Rattle.border.specs.Returns.{ReturnsOn, contents};
 ghost use Rattle.border.specs.Calls.{spherical, angles, point};
 ghost use Rattle.border.specs.Tables.{with_table_on};
 
+use border::answers::put;
 use border::rows::rows;
 use coordinates::base::Radians;
-use coordinates::conversions::{FaceAnswer, SphericalAnswer};
 use coordinates::coords::Face;
 use coordinates::spherical::Spherical;
 use coordinates::vec2::Vec2;
@@ -32,28 +32,16 @@ pub extern "C" fn a5_forward_with(
     ensures { ReturnsOn (lent frame face_store sphere_store) result (contents to) point
         (with_table_on (λ t s. forward_on ieee t s (spherical theta phi) origin) table.now) }
 {
-    if table.len() != 84 {
-        return 20;
-    }
+    let rows = match rows(table) {
+        Ok(rows) => rows,
+        Err(refusal) => return refusal.number(),
+    };
     let position = Spherical {
         theta: Radians(theta),
         phi: Radians(phi),
     };
-    let given = table_calls::forward_with(
-        rows(table),
-        frame,
-        face_store,
-        sphere_store,
-        position,
-        origin,
-    );
-    match given {
-        FaceAnswer::Answered(f) => {
-            *to = [f.0.x, f.0.y];
-            0
-        }
-        FaceAnswer::Refused(n) => answer::number(n),
-    }
+    let point = table_calls::forward_with(rows, frame, face_store, sphere_store, position, origin);
+    put(point, to)
 }
 
 // Inverse with a table: theta and phi, in radians, of a face point on the face of one of its origins.
@@ -71,23 +59,11 @@ pub extern "C" fn a5_inverse_with(
     ensures { ReturnsOn (lent frame face_store sphere_store) result (contents to) angles
         (with_table_on (λ t s. inverse_on ieee t s (face x y) origin) table.now) }
 {
-    if table.len() != 84 {
-        return 20;
-    }
+    let rows = match rows(table) {
+        Ok(rows) => rows,
+        Err(refusal) => return refusal.number(),
+    };
     let point = Face(Vec2 { x, y });
-    let given = table_calls::inverse_with(
-        rows(table),
-        frame,
-        face_store,
-        sphere_store,
-        point,
-        origin,
-    );
-    match given {
-        SphericalAnswer::Answered(s) => {
-            *to = [s.theta.0, s.phi.0];
-            0
-        }
-        SphericalAnswer::Refused(n) => answer::number(n),
-    }
+    let position = table_calls::inverse_with(rows, frame, face_store, sphere_store, point, origin);
+    put(position, to)
 }

@@ -10,13 +10,12 @@ ghost use Rattle.border.specs.Returns.{ReturnsOn, contents, contents_of};
 ghost use Rattle.border.specs.Calls.{lon_lat, degrees, id_and_point};
 ghost use Rattle.border.specs.Tables.{with_table_on};
 
+use border::answers::{put, put_place};
 use border::rows::rows;
 use coordinates::base::Degrees;
-use coordinates::conversions::LonLatAnswer;
 use coordinates::coords::Face;
 use coordinates::lonlat::LonLat;
 use coordinates::vec2::Vec2;
-use dodecahedron::place::PlaceAnswer;
 
 // Place with a table: the number of its nearest origin, and the face point on its face, of a position in degrees.
 #[unsafe(no_mangle)]
@@ -33,22 +32,16 @@ pub extern "C" fn a5_place_with(
     ensures { ReturnsOn (lent frame face_store sphere_store) result (contents_of id to) id_and_point
         (with_table_on (λ t s. place_on ieee t s (lon_lat longitude latitude)) table.now) }
 {
-    if table.len() != 84 {
-        return 20;
-    }
+    let rows = match rows(table) {
+        Ok(rows) => rows,
+        Err(refusal) => return refusal.number(),
+    };
     let position = LonLat {
         longitude: Degrees(longitude),
         latitude: Degrees(latitude),
     };
-    let given = table_calls::place_with(rows(table), frame, face_store, sphere_store, position);
-    match given {
-        PlaceAnswer::Answered(p) => {
-            *id = p.origin;
-            *to = [p.face.0.x, p.face.0.y];
-            0
-        }
-        PlaceAnswer::Refused(n) => answer::number(n),
-    }
+    let place = table_calls::place_with(rows, frame, face_store, sphere_store, position);
+    put_place(place, id, to)
 }
 
 // Unplace with a table: longitude and latitude, in degrees, of a face point on the face of one of its origins.
@@ -66,23 +59,11 @@ pub extern "C" fn a5_unplace_with(
     ensures { ReturnsOn (lent frame face_store sphere_store) result (contents to) degrees
         (with_table_on (λ t s. unplace_on ieee t s (face x y) origin) table.now) }
 {
-    if table.len() != 84 {
-        return 20;
-    }
+    let rows = match rows(table) {
+        Ok(rows) => rows,
+        Err(refusal) => return refusal.number(),
+    };
     let point = Face(Vec2 { x, y });
-    let given = table_calls::unplace_with(
-        rows(table),
-        frame,
-        face_store,
-        sphere_store,
-        point,
-        origin,
-    );
-    match given {
-        LonLatAnswer::Answered(l) => {
-            *to = [l.longitude.0, l.latitude.0];
-            0
-        }
-        LonLatAnswer::Refused(n) => answer::number(n),
-    }
+    let position = table_calls::unplace_with(rows, frame, face_store, sphere_store, point, origin);
+    put(position, to)
 }

@@ -13,8 +13,8 @@ use border::rows::rows;
 pub extern "C" fn a5_table_load(bytes: &[u8], table: &mut [f64; 84]) -> u8
     ensures { Returns (table_given ieee bytes.now) result (contents table) whole }
 {
-    let check = table_file::load(bytes, table);
-    answer::status(check)
+    let loaded = table_file::load(bytes, table);
+    answer::status(loaded)
 }
 
 // Save: the file of a table goes to the 677 bytes lent.
@@ -22,9 +22,10 @@ pub extern "C" fn a5_table_load(bytes: &[u8], table: &mut [f64; 84]) -> u8
 pub extern "C" fn a5_table_save(table: &[f64], bytes: &mut [u8]) -> u8
     ensures { Returns (with_table (λ t. file_given ieee t (length bytes.old)) table.now) result (contents bytes) whole }
 {
-    if table.len() != 84 {
-        return 20;
-    }
-    let check = table_file::save(rows(table), bytes);
-    answer::status(check)
+    let rows = match rows(table) {
+        Ok(rows) => rows,
+        Err(refusal) => return refusal.number(),
+    };
+    let saved = table_file::save(rows, bytes);
+    answer::status(saved)
 }

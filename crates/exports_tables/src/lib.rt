@@ -15,11 +15,10 @@ ghost use Rattle.border.specs.Returns.{Returns, contents};
 ghost use Rattle.border.specs.Calls.{id as Calls·id, spherical};
 ghost use Rattle.border.specs.Tables.{with_table, with_table_on};
 
+use border::answers::put;
 use border::rows::rows;
 use coordinates::base::Radians;
 use coordinates::spherical::Spherical;
-use nearest_calls::OriginAnswer;
-use set::open::OpenAnswer;
 
 // Open with a table: writes the frame and fills both stores with 0.0.
 #[unsafe(no_mangle)]
@@ -32,14 +31,12 @@ pub extern "C" fn a5_open_with(
     ensures answer { result ≡ status (with_table_on (open_on ieee) table.now (lent_mut frame face_store sphere_store).entry).answer }
     ensures left { Becomes (lent_mut frame face_store sphere_store) (λ s. (with_table_on (open_on ieee) table.now s).set) }
 {
-    if table.len() != 84 {
-        return 20;
-    }
-    let given = open_calls::open_with(rows(table), frame, face_store, sphere_store);
-    match given {
-        OpenAnswer::Opened => 0,
-        OpenAnswer::Refused(n) => answer::number(n),
-    }
+    let rows = match rows(table) {
+        Ok(rows) => rows,
+        Err(refusal) => return refusal.number(),
+    };
+    let opened = open_calls::open_with(rows, frame, face_store, sphere_store);
+    answer::status(opened)
 }
 
 // Nearest with a table: the number of its origin nearest to a position, in radians, goes to id.
@@ -47,19 +44,14 @@ pub extern "C" fn a5_open_with(
 pub extern "C" fn a5_nearest_with(table: &[f64], theta: f64, phi: f64, id: &mut u8) -> u8
     ensures { Returns (with_table (λ t. nearest_given ieee t (spherical theta phi)) table.now) result (contents id) Calls·id }
 {
-    if table.len() != 84 {
-        return 20;
-    }
+    let rows = match rows(table) {
+        Ok(rows) => rows,
+        Err(refusal) => return refusal.number(),
+    };
     let point = Spherical {
         theta: Radians(theta),
         phi: Radians(phi),
     };
-    let given = nearest_calls::nearest_with(rows(table), point);
-    match given {
-        OriginAnswer::Answered(nearest) => {
-            *id = nearest;
-            0
-        }
-        OriginAnswer::Refused(n) => answer::number(n),
-    }
+    let nearest = nearest_calls::nearest_with(rows, point);
+    put(nearest, id)
 }

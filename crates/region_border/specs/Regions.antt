@@ -1,6 +1,6 @@
 -- A region as a C function: the number that it returns, and the points, the origin, the box and the set that it leaves. Definitions only.
-use Rattle.std.specs.Prelude.{ℕ, Bool, true, false, cond, List, eqb, Float, length}
-use Rattle.answer.specs.Given.{Given, answered, refused, status}
+use Rattle.std.specs.Prelude.{ℕ, cond, List, eqb, Float, length}
+use Rattle.answer.specs.Given.{refused, status}
 use Rattle.arithmetic.specs.Arith.{Arith}
 use Rattle.coordinates.specs.declared.coords.Face.{Face}
 use Rattle.coordinates.specs.declared.lonlat.LonLat.{LonLat}
@@ -10,17 +10,15 @@ use Rattle.caption_box.specs.declared.CaptionBox.{CaptionBox}
 use Rattle.region_work.specs.declared.region.Region.{Region}
 use Rattle.region_work.specs.Region.{RegionCalled, region_called, region_on}
 
--- whether there is an answer
-abbrev pub is_answered : Given Region → Bool
-is_answered (answered r) = true
-is_answered (refused n) = false
-
 -- what is written of an answer beside the points
 abbrev pub origin_of : Region → ℕ
 origin_of r = r.origin
 
 abbrev pub box_of : Region → CaptionBox
 box_of r = r.bounds
+
+abbrev pub origin_and_box : Region → ℕ × CaptionBox
+origin_and_box r = (origin_of r, box_of r)
 
 pub record Returned : Type 0 where
   pub status : ℕ

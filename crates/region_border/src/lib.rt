@@ -3,63 +3,25 @@
 #![tactic(auto)]
 
 ghost use Rattle.std.specs.Prelude.{◌≡◌};
-ghost use Rattle.answer.specs.Given.{status};
-ghost use Rattle.border.specs.Returns.{written};
-ghost use Rattle.caption_box.specs.Sides.{new_box};
 ghost use Rattle.answer.specs.Answer.{given};
-ghost use Rattle.region_border.specs.Regions.{is_answered, origin_of, box_of};
+ghost use Rattle.border.specs.Returns.{Returns, contents_of};
+ghost use Rattle.region_border.specs.Regions.{origin_and_box};
 
+use answer::Refusal;
 use caption_box::CaptionBox;
-use region_work::region::RegionAnswer;
+use region_work::region::Region;
 
-// 0 for an answer, and otherwise the number of the refusal.
-pub fn status(given: RegionAnswer) -> u8
-    ensures { result ≡ status (given given) }
+// What C is told of a region: 0, and the origin and the box are written where they are lent for, or the number of the refusal, and
+// nothing is written.
+pub fn put_region(outcome: Result<Region, Refusal>, origin: &mut u8, caption: &mut CaptionBox) -> u8
+    ensures { Returns (given outcome) result (contents_of origin caption) origin_and_box }
 {
-    match given {
-        RegionAnswer::Answered(_) => 0,
-        RegionAnswer::Refused(n) => answer::number(n),
-    }
-}
-
-// The origin goes where it is lent for; a refusal writes nothing.
-pub fn put_origin(given: RegionAnswer, origin: &mut u8)
-    ensures { origin.new ≡ written origin_of (given given) origin.old }
-{
-    if let RegionAnswer::Answered(r) = given {
-        *origin = r.origin;
-    }
-}
-
-// Whether there is an answer.
-fn is_answered(given: RegionAnswer) -> bool
-    ensures { result ≡ is_answered (given given) }
-{
-    match given {
-        RegionAnswer::Answered(_) => true,
-        RegionAnswer::Refused(_) => false,
-    }
-}
-
-// The box of an answer, and a new one of a refusal.
-fn box_in(given: RegionAnswer) -> CaptionBox
-    ensures { result ≡ written box_of (given given) new_box }
-{
-    match given {
-        RegionAnswer::Answered(r) => {
-            let bounds = r.bounds;
-            bounds
+    match outcome {
+        Ok(region) => {
+            *origin = region.origin;
+            *caption = region.bounds;
+            0
         }
-        RegionAnswer::Refused(_) => CaptionBox::new(),
+        Err(refusal) => refusal.number(),
     }
-}
-
-// The box goes where it is lent for; a refusal writes nothing.
-pub fn put_box(given: RegionAnswer, caption: &mut CaptionBox)
-    ensures { caption.new ≡ written box_of (given given) caption.old }
-{
-    if !is_answered(given) {
-        return;
-    }
-    *caption = box_in(given);
 }

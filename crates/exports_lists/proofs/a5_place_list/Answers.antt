@@ -3,4 +3,4 @@ use Rattle.exports_lists.proofs.TableLength.{told}
 use Rattle.exports_lists.proofs.a5_place_list.Goals as goal
 
 pub returns : goal.returns
-returns c = told _ _ _ _ _ c.place_list-given.ensures c.status.ensures
+returns c = told _ _ _ _ _ c.place_list-listed.ensures c.status.ensures

@@ -3,4 +3,4 @@ use Rattle.region_border.proofs.Told.{told}
 use Rattle.exports_region.proofs.a5_region.Goals as goal
 
 pub returns : goal.returns
-returns c = told _ _ _ _ _ _ _ _ _ c.region-given.ensures c.put_origin.ensures c.put_box.ensures c.status.ensures
+returns c = told _ _ _ _ _ _ c.region-outcome.ensures c.put_region.ensures

@@ -1,18 +1,17 @@
 -- `a5_region_with` meets its contract: a table of another length is refused, and otherwise it is the call's own, as C is told of it. Assumes
 -- nothing.
-use mathlib.Core.Path.{sym, ap, ◌∙◌}
-use borrow.Author.Tests.{eq-eqb, ne_eqb}
-use Rattle.region_work.specs.Region.{RegionCalled}
-use Rattle.region_border.specs.Regions.{in_c}
-use Rattle.region_border.proofs.Told.{told, other_length, rows_of}
+use mathlib.Core.Path.{refl, sym, ap, ◌∙◌}
+use Rattle.answer.specs.Answer.{given}
+use Rattle.border.proofs.Returns.{returns_refusal}
+use Rattle.region_border.proofs.Told.{told, no_rows, with_rows}
 use Rattle.exports_region.proofs.a5_region_with.Goals as goal
 
-pub returns-then-table-ne84 : goal.returns-then-table-ne84
-returns-then-table-ne84 c =
-    ap (λ (r : RegionCalled). in_c r c.args.origin.now c.args.caption.now) (sym (other_length _ _ _ _ _ (ne_eqb _ _ c.if-table-ne84.true)))
+pub returns-in-Err : goal.returns-in-Err
+returns-in-Err c =
+    told _ _ _ _ _ _ (sym (no_rows _ _ _ _ _ _ (sym (ap given c.in-Err.is) ∙ c.rows.ensures))) (returns_refusal _ refl c.number.ensures refl)
 
 pub returns : goal.returns
 returns c =
-    told _ _ _ _ _ _ _ _ _
-    (c.region_with-given.ensures ∙ sym (rows_of _ _ _ _ _ _ (eq-eqb _ _ c.if-table-ne84.false) c.rows.ensures))
-    c.put_origin.ensures c.put_box.ensures c.status.ensures
+    told _ _ _ _ _ _
+    (c.region_with-outcome.ensures ∙ sym (with_rows _ _ _ _ _ _ (sym (ap given c.in-Ok.is) ∙ c.rows.ensures)))
+    c.put_region.ensures
