@@ -20,29 +20,21 @@ pub fn blank() -> [PlaceResult; MOST]
 }
 
 // All results, also those that no call may write.
-fn mixed_results(results: [PlaceResult; MOST]) -> u64 {
+fn mixed_results(results: &[PlaceResult]) -> u64 {
     let mut mix: u64 = 0;
-    let mut i: usize = 0;
-    while i < MOST {
-        let result = results[i];
-        mix = mixed(mix, result.refusal as u64);
-        mix = mixed(mix, result.origin as u64);
+    for result in results {
+        mix = mixed(mix, u64::from(result.refusal));
+        mix = mixed(mix, u64::from(result.origin));
         mix = mixed(mix, bits(result.x));
         mix = mixed(mix, bits(result.y));
-        i += 1;
     }
     mix
 }
 
 // The status, and all results.
-pub fn of_listed(given: Listed) -> Outcome {
-    let status = given.status;
-    let results = given.results;
+pub fn of_listed(listed: &Listed) -> Outcome {
     Outcome {
-        status: status,
-        count: 1,
-        first: mixed_results(results),
-        second: 0,
-        third: 0,
+        status: answer::status(listed.answer),
+        answers: [Some(mixed_results(&listed.results)), None, None],
     }
 }

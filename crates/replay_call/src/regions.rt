@@ -6,8 +6,7 @@ use answer::bits;
 use caption_box::CaptionBox;
 use coordinates::coords::Face;
 use coordinates::vec2::Vec2;
-use region_work::region::RegionAnswer;
-use replay::outcome::Outcome;
+use replay::outcome::{Outcome, answered};
 use replay_lent::regions::{MOST, Outlined};
 
 // What a point holds before a call.
@@ -18,14 +17,11 @@ pub fn blank() -> [Face; MOST]
 }
 
 // All points, also those that no call may write.
-fn mixed_points(points: [Face; MOST]) -> u64 {
+fn mixed_points(points: &[Face]) -> u64 {
     let mut mix: u64 = 0;
-    let mut i: usize = 0;
-    while i < MOST {
-        let point = points[i];
+    for point in points {
         mix = mixed(mix, bits(point.0.x));
         mix = mixed(mix, bits(point.0.y));
-        i += 1;
     }
     mix
 }
@@ -33,32 +29,21 @@ fn mixed_points(points: [Face; MOST]) -> u64 {
 fn mixed_box(bounds: CaptionBox) -> u64 {
     let x = mixed(bits(bounds.least_x), bits(bounds.greatest_x));
     let y = mixed(bits(bounds.least_y), bits(bounds.greatest_y));
-    let empty = if bounds.empty { 1 } else { 0 };
-    mixed(mixed(x, y), empty)
+    mixed(mixed(x, y), u64::from(bounds.empty))
 }
 
 // The answer, and all points.
-pub fn of_outlined(given: Outlined) -> Outcome {
-    let answer = given.answer;
-    let points = given.points;
-    let mix = mixed_points(points);
-    match answer {
-        RegionAnswer::Answered(r) => {
-            let bounds = r.bounds;
-            Outcome {
-                status: 0,
-                count: 3,
-                first: mix,
-                second: r.origin as u64,
-                third: mixed_box(bounds),
-            }
-        }
-        RegionAnswer::Refused(n) => Outcome {
-            status: answer::number(n),
-            count: 1,
-            first: mix,
-            second: 0,
-            third: 0,
+pub fn of_outlined(outlined: &Outlined) -> Outcome {
+    let points = Some(mixed_points(&outlined.points));
+    match outlined.answer {
+        Ok(region) => answered([
+            points,
+            Some(u64::from(region.origin)),
+            Some(mixed_box(region.bounds)),
+        ]),
+        Err(refusal) => Outcome {
+            status: refusal.number(),
+            answers: [points, None, None],
         },
     }
 }

@@ -1,42 +1,54 @@
-// What a call comes to on a set with the built-in table.
+// What a call comes to on a set, with a table or with the built-in one.
 #![tactic(auto)]
 
+mod calls;
 mod lists;
 mod regions;
 mod steps;
 
-ghost use Rattle.origin.specs.Origins.{ORIGINS};
 ghost use Rattle.set.specs.Outcome.{lent_mut, Becomes};
+ghost use Rattle.region_work.specs.Parts.{table_of};
 ghost use Rattle.replay_call.specs.Performed.{performed};
 
+use crate::calls::{forward_either, inverse_either, open_either, place_either, unplace_either};
 use crate::lists::listed;
 use crate::regions::outlined;
 use crate::steps::stepped;
-use calls::{forward, inverse, place, unplace};
-use open_calls::open;
-use replay::outcome::Outcome;
-use replay_call::{Call, of_face, of_lon_lat, of_open, of_part, of_place, of_spherical, of_state};
+use replay::outcome::{Outcome, done, told};
+use replay_arguments::answers;
+use replay_call::{Call, part, placed, state};
 use show::{show, slot_state};
 
-// The call on a set. It leaves the set as the theorem about every list has it.
+// The call on a set, with the table that is handed over, or with the built-in one: open brings it, and every other call that takes
+// one takes it. It leaves the set as the theorem about every list has it.
 pub fn perform(
+    table: Option<&[f64; 84]>,
     frame: &mut [f64],
-    face_store: &mut [f64],
-    sphere_store: &mut [f64],
+    face: &mut [f64],
+    sphere: &mut [f64],
     call: Call,
 ) -> Outcome
-    ensures { Becomes (lent_mut frame face_store sphere_store) (λ s. performed ORIGINS s call) }
+    ensures { Becomes (lent_mut frame face sphere) (λ s. performed (table_of table.entry) s call) }
 {
     match call {
-        Call::Open => of_open(open(frame, face_store, sphere_store)),
-        Call::Forward(p, o) => of_face(forward(frame, face_store, sphere_store, p, o)),
-        Call::Inverse(f, o) => of_spherical(inverse(frame, face_store, sphere_store, f, o)),
-        Call::Place(p) => of_place(place(frame, face_store, sphere_store, p)),
-        Call::Unplace(f, o) => of_lon_lat(unplace(frame, face_store, sphere_store, f, o)),
-        Call::List(near) => listed(frame, face_store, sphere_store, near),
-        Call::Region(near) => outlined(frame, face_store, sphere_store, near),
-        Call::Step(registers) => stepped(frame, face_store, sphere_store, registers),
-        Call::Show(kind, slot) => of_part(show(face_store, sphere_store, kind, slot)),
-        Call::Ask(kind, slot) => of_state(slot_state(face_store, sphere_store, kind, slot)),
+        Call::Open => told(open_either(table, frame, face, sphere), done),
+        Call::Forward(p, o) => told(
+            forward_either(table, frame, face, sphere, p, o),
+            answers::face,
+        ),
+        Call::Inverse(f, o) => told(
+            inverse_either(table, frame, face, sphere, f, o),
+            answers::spherical,
+        ),
+        Call::Place(p) => told(place_either(table, frame, face, sphere, p), placed),
+        Call::Unplace(f, o) => told(
+            unplace_either(table, frame, face, sphere, f, o),
+            answers::lon_lat,
+        ),
+        Call::List(near) => listed(table, frame, face, sphere, near),
+        Call::Region(near) => outlined(table, frame, face, sphere, near),
+        Call::Step(registers) => stepped(table, frame, face, sphere, registers),
+        Call::Show(kind, slot) => part(show(face, sphere, kind, slot)),
+        Call::Ask(kind, slot) => told(slot_state(face, sphere, kind, slot), state),
     }
 }

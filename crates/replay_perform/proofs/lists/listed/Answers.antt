@@ -1,16 +1,14 @@
 -- `lists::listed` meets its contract: a list of positions near the call's is lent. Assumes nothing.
-use mathlib.Core.Path.{ap, ◌∙◌}
-use native.Mathlib.Omega.{arith}
-use Rattle.origin.specs.Origins.{ORIGINS}
+use Rattle.std.proofs.Common.{ap, ◌∙◌, arith}
 use Rattle.set.specs.Set.{set_of}
-use Rattle.replay_lent.specs.Lists.{Left}
+use Rattle.place_list.specs.Lists.{Called}
+use Rattle.region_work.specs.Parts.{table_of}
 use Rattle.replay_call.proofs.Near.{listed_left}
 use Rattle.replay_perform.proofs.lists.listed.Goals as goal
 
 pub returns : goal.returns
 returns c =
     let a = c.args in
-    let s = set_of a.frame.now a.face_store.now a.sphere_store.now in
-    ap (λ (l : Left). l.set) c.lend.ensures
-    ∙ listed_left ORIGINS s a.near c.wide-n.ensures.value c.wide-m.ensures.value c.blank.result
-    c.for_list-positions.ensures c.blank.ensures (omega (arith, c.wide-m.ensures.upper_bound))
+    let s = set_of a.frame.now a.face.now a.sphere.now in
+    ap (λ (l : Called). l.left.set) c.lend.ensures
+    ∙ listed_left (table_of a.table) s a.near _ c.from-n.ensures c.from-m.ensures _ c.positions-list.ensures c.blank.ensures (omega arith)
