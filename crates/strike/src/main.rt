@@ -116,26 +116,20 @@ fn run<R: Read, W: Write>(
     }
 }
 
-// As many zeros as one read brings bytes at most.
-fn buffer() -> [u8; 65536]
-    ensures { 65536 ≡ length result }
+// So many zeros.
+fn zeros<const N: usize>() -> [u8; N]
+    ensures { N ≡ length result }
 {
-    [0; 65536]
-}
-
-// The buffer's 65,536 bytes hold at most 6,553 whole records; here is room for 6,554 lines.
-fn room() -> [u8; 262160]
-    ensures { 262160 ≡ length result }
-{
-    [0; 262160]
+    [0; N]
 }
 
 fn main(rt: HostRuntime) {
     let mut frame = [0.0; FRAME];
     let mut face_store = [0.0; FACE_STORE];
     let mut sphere_store = [0.0; SPHERE_STORE];
-    let mut buffer = buffer();
-    let mut out = room();
+    // as many bytes as one read brings at most: 6,553 whole records, and room for 6,554 lines
+    let mut buffer = zeros::<65536>();
+    let mut out = zeros::<262160>();
     run(
         &mut rt.stdin(),
         &mut rt.stdout(),

@@ -9,8 +9,11 @@ use std::io::{Read, Write};
 use strike_session::session::Stage;
 use strike_step::{Standing, step};
 
-// All reads of a session. A loop has to end, and nothing says that the input does, so the reads are counted. The most
-// records and the header have 42,949,672,955 bytes, of which each read brings one at least. So the
+// More reads than a session can have: the most records and the header have 42,949,672,955 bytes, of which each
+// read brings one at least.
+const READS: u64 = 42_949_672_960;
+
+// All reads of a session. A loop has to end, and nothing says that the input does, so the reads are counted. The
 // count never ends a session: all reads end by a step that ends the program.
 pub fn read_all<R: Read, W: Write>(
     from: &mut R,
@@ -37,10 +40,11 @@ pub fn read_all<R: Read, W: Write>(
         ended: false,
         lost: false,
     };
-    let mut reads: u64 = 42_949_672_960;
-    while reads > 0 && !at.ended {
+    for _read in 0..READS {
         at = step(from, to, at, frame, face_store, sphere_store, buffer, out);
-        reads -= 1;
+        if at.ended {
+            return at;
+        }
     }
     at
 }

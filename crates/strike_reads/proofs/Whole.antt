@@ -1,7 +1,7 @@
 -- However the input arrived, the program's lines are document 01's for the bytes in a row: what the steps give is what `piecewise` gives for the same
 -- pieces, and how an input is cut changes nothing (`program_in_pieces`). Assumes nothing.
 use mathlib.Core.Path.{◌≡◌, refl, sym, ap, ◌∙◌}
-use mathlib.Core.List.{List, [], ◌∷◌, ◌++◌}
+use mathlib.Core.List.{List, [], ◌∷◌, ◌++◌, append_assoc, append-nil}
 use Prim.Native.Nat.{ℕ, ◌+◌, ◌*◌, ◌/◌, ◌≤◌}
 use native.Mathlib.Omega.{arith}
 use lib.ListN.{length}
@@ -14,18 +14,9 @@ use Rattle.strike_session.specs.Pieces.{Piece, joined, Roomy, piecewise, begin_l
 use Rattle.strike_session.proofs.Cutting.{program_in_pieces}
 use Rattle.strike_reads.specs.Steps.{State, begun, Read, none, more, bytes_of, lines_of, WholeSession}
 
-module _ {X : Type 0} where
-  assoc : (xs ys zs : List X) → (xs ++ ys) ++ zs ≡ xs ++ (ys ++ zs)
-  assoc [] ys zs = refl
-  assoc (x ∷ xs) ys zs = ap (λ l. x ∷ l) (assoc xs ys zs)
-
-  nothing_behind : (xs : List X) → xs ++ [] ≡ xs
-  nothing_behind [] = refl
-  nothing_behind (x ∷ xs) = ap (λ l. x ∷ l) (nothing_behind xs)
-
 joined_behind : (ps : List Piece) (p : Piece) → joined (ps ++ (p ∷ [])) ≡ joined ps ++ p.bytes
-joined_behind [] p = nothing_behind p.bytes
-joined_behind (q ∷ ps) p = ap (λ l. q.bytes ++ l) (joined_behind ps p) ∙ sym (assoc q.bytes (joined ps) p.bytes)
+joined_behind [] p = append-nil p.bytes
+joined_behind (q ∷ ps) p = ap (λ l. q.bytes ++ l) (joined_behind ps p) ∙ sym (append_assoc q.bytes (joined ps) p.bytes)
 
 roomy_behind : (ps : List Piece) (p : Piece) → Roomy ps → (length p.bytes / 10 + 1) * LINE ≤ p.room → Roomy (ps ++ (p ∷ []))
 roomy_behind [] p h r = (r, tt)
@@ -44,7 +35,7 @@ module _ {space room : ℕ} {s : State} where
   in_pieces none ps = refl
   in_pieces (more {t} r arrived some fits on) ps =
       let p : Piece = record { bytes = arrived; room = room } in
-      ap (All s) (assoc (pieces r) (p ∷ []) ps) ∙ in_pieces r (p ∷ ps) ∙ sym (assoc (lines_of r) _ _)
+      ap (All s) (append_assoc (pieces r) (p ∷ []) ps) ∙ in_pieces r (p ∷ ps) ∙ sym (append_assoc (lines_of r) _ _)
 
   all_bytes : {t : State} (r : Read space room s t) → joined (pieces r) ≡ bytes_of r
   all_bytes none = refl
@@ -60,6 +51,6 @@ module _ {space room : ℕ} {s : State} where
 pub whole_session : WholeSession
 whole_session space room s t h r =
     let line = begin_line (open_on ieee ORIGINS s).answer in
-    ap (λ (l : List ℕ). line ++ l) (sym (in_pieces r []) ∙ ap (All (begun s)) (nothing_behind (pieces r)))
+    ap (λ (l : List ℕ). line ++ l) (sym (in_pieces r []) ∙ ap (All (begun s)) (append-nil (pieces r)))
     ∙ program_in_pieces ieee ORIGINS s (pieces r) (all_roomy r h)
     ∙ ap (program ieee ORIGINS s) (all_bytes r)

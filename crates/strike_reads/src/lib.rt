@@ -13,10 +13,7 @@ fn read<R: Read>(from: &mut R, space: &mut [u8]) -> usize
     ensures result_in_bounds { result ≤ length space.new }
     ensures bytes { Consumes (R.remaining from.old) (R.remaining from.new) (take result space.new) }
 {
-    match from.read(space) {
-        Ok(n) => n,
-        Err(_) => 0,
-    }
+    from.read(space).unwrap_or(0)
 }
 
 // The same behind the bytes that are kept, which stay.

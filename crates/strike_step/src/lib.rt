@@ -54,19 +54,17 @@ pub fn step<R: Read, W: Write>(
     let kept = at.kept;
     if is_over(stage) {
         return Standing {
-            stage,
-            kept,
             ended: true,
             lost: false,
+            ..at
         };
     }
     let n = read_behind(from, buffer, kept);
     if n == 0 {
         return Standing {
-            stage,
-            kept,
             ended: true,
             lost: false,
+            ..at
         };
     }
     let turn = feed_buffer(

@@ -1,14 +1,14 @@
--- `read_all` ends: the measure is the number of reads that are left. The loop's invariant: the standing is what the reads came to, with what they did to the reader
--- and the writer; lengths are as they were; and where the program has not ended, no lines are lost, and the reads that are left last for the bytes that the
--- session can still take.
+-- The loop's invariant: the standing is what the reads came to, with what they did to the reader and the writer; lengths are as they were; no lines are lost;
+-- and the reads that are left last for the bytes that the session can still take.
+use Prim.Native.Nat.{◌-◌}
 use Rattle.std.proofs.Common.{◌≡◌, ◌≤◌, false, length}
 use Rattle.set.specs.Set.{set_of}
 use Rattle.strike_reads.specs.Steps.{state_of, Read, Passes, bytes_of, lines_of}
 use Rattle.strike_reads.proofs.Counted.{Counted}
 use Rattle.strike_input.proofs.read_all.Given as goal
 
-abbrev pub invariant-loop-reads : goal.invariant-loop-reads
-invariant-loop-reads g l =
+abbrev pub invariant-loop-read : goal.invariant-loop-read
+invariant-loop-read g l =
     (length l.buffer ≡ length l.initial.buffer)
     × (length l.out ≡ length l.initial.out)
     × (l.at.kept ≤ length l.buffer)
@@ -17,8 +17,5 @@ invariant-loop-reads g l =
     (state_of l.at.stage l.at.kept (set_of l.frame l.face_store l.sphere_store) l.buffer))
     × Passes (g.R.Read.remaining l.initial.from) (g.R.Read.remaining l.from) (g.W.Write.contents l.initial.to) (g.W.Write.contents l.to)
     (bytes_of r) (lines_of r) l.at.lost)
-    × (l.at.ended ≡ false → l.at.lost ≡ false)
-    × (l.at.ended ≡ false → Counted l.reads l.at.stage l.at.kept)
-
-abbrev pub decreases-loop-reads : goal.decreases-loop-reads
-decreases-loop-reads g l = l.reads
+    × (l.at.lost ≡ false)
+    × Counted (42949672960 - l._read) l.at.stage l.at.kept

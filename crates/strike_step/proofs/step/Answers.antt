@@ -2,7 +2,7 @@
 -- has the lines where the write did not fail. Assumes nothing.
 use mathlib.Core.Path.{◌≡◌, refl, sym, ap, ◌∙◌, subst}
 use mathlib.Core.Bool.{false}
-use mathlib.Core.List.{List, []}
+use mathlib.Core.List.{List}
 use Prim.Native.Nat.{ℕ, ◌≤◌, ◌<◌}
 use native.Mathlib.Omega.{arith}
 use lib.ListN.{length, take, drop}
@@ -10,7 +10,7 @@ use Rattle.std.specs.Io.KnownBytes.{Consumes, Appends}
 use Rattle.std.proofs.KnownBytes.{Consumes-nil, Appends-nil}
 use Rattle.set.specs.Set.{set_of}
 use Rattle.strike_session.specs.Pieces.{over}
-use Rattle.strike_reads.specs.Steps.{State, Stepped, rests, feeds}
+use Rattle.strike_reads.specs.Steps.{rests, feeds}
 use Rattle.strike_reads.proofs.Arrived.{arrived, arrived_length, next_is, lines_are, lines_first}
 use Rattle.strike_step.proofs.step.Goals as goal
 
