@@ -1,7 +1,6 @@
-// The calls of long lists, drawn from a fixed seed, what is due after them, and the counts, for both programs that run such lists.
+// The calls of long lists, drawn from a fixed seed, a set and what is due after them, for both programs that run such lists.
 #![tactic(auto)]
 
-pub mod both_stores;
-pub mod counts;
+pub mod buffers;
 pub mod draw;
 pub mod slots;

@@ -3,8 +3,7 @@ ghost use Rattle.std.specs.Prelude.{◌<◌};
 
 use replay::outcome::Outcome;
 use replay_call::Call;
-use replay_draw::counts::count;
-use replay_tally::agree;
+use replay_tally::Tally;
 
 // Where a call is counted: the names stand in this order. A refused one is counted seven places on.
 fn place_of(call: Call) -> usize
@@ -25,18 +24,8 @@ fn place_of(call: Call) -> usize
 }
 
 // Counts one more that was compared, and whether it differs.
-pub(crate) fn count_outcome(
-    call: Call,
-    given: Outcome,
-    due: Outcome,
-    compared: &mut [u64; 32],
-    differ: &mut [u64; 32],
-) {
+pub(crate) fn count_outcome(call: Call, given: Outcome, due: Outcome, tally: &mut Tally) {
     let place = place_of(call);
-    let same = agree(given, due);
-    if due.status > 0 {
-        count(place + 7, same, compared, differ);
-        return;
-    }
-    count(place, same, compared, differ);
+    let place = if due.status > 0 { place + 7 } else { place };
+    tally.count(place, given == due);
 }

@@ -3,72 +3,34 @@ use crate::counts::count_outcome;
 use crate::due::expected;
 use open_calls::open;
 use replay_call::Call;
-use replay_draw::both_stores::alike;
-use replay_draw::counts::count;
+use replay_draw::buffers::Set;
 use replay_draw::draw::draw;
 use replay_perform::perform;
-use set::sizes::{FACE_STORE, FRAME, SPHERE_STORE};
+use replay_tally::Tally;
+
+// Where it is counted whether every number of the set is as it is due after a call.
+const SET: usize = 4;
 
 // One call on the set, compared: what it comes to, and every number of the set after it.
-fn turn(
-    call: Call,
-    frame: &mut [f64; FRAME],
-    face: &mut [f64; FACE_STORE],
-    sphere: &mut [f64; SPHERE_STORE],
-    due_frame: &[f64; FRAME],
-    due_face: &mut [f64; FACE_STORE],
-    due_sphere: &mut [f64; SPHERE_STORE],
-    compared: &mut [u64; 32],
-    differ: &mut [u64; 32],
-) {
-    let given = perform(frame, face, sphere, call);
-    let due = expected(call, due_face, due_sphere);
-    count_outcome(call, given, due, compared, differ);
-    let as_due = alike(frame, face, sphere, due_frame, due_face, due_sphere);
-    count(4, as_due, compared, differ);
+fn turn(call: Call, set: &mut Set, due: &mut Set, tally: &mut Tally) {
+    let given = perform(None, &mut set.frame, &mut set.face, &mut set.sphere, call);
+    let expected = expected(call, due);
+    count_outcome(call, given, expected, tally);
+    tally.count(SET, set.is(due));
 }
 
 // A list of so many calls, open once in so many of them, or never for 0.
-fn list(
-    seed: &mut u64,
-    calls: u32,
-    opens: u64,
-    frame: &mut [f64; FRAME],
-    face: &mut [f64; FACE_STORE],
-    sphere: &mut [f64; SPHERE_STORE],
-    due_frame: &[f64; FRAME],
-    due_face: &mut [f64; FACE_STORE],
-    due_sphere: &mut [f64; SPHERE_STORE],
-    compared: &mut [u64; 32],
-    differ: &mut [u64; 32],
-) {
-    let mut left = calls;
-    while left > 0 {
-        let call = draw(seed, opens);
-        turn(
-            call, frame, face, sphere, due_frame, due_face, due_sphere, compared, differ,
-        );
-        left -= 1;
+fn list(seed: &mut u64, calls: u32, opens: u64, set: &mut Set, due: &mut Set, tally: &mut Tally) {
+    for _ in 0..calls {
+        turn(draw(seed, opens), set, due, tally);
     }
 }
 
 // A list with many opens, and then one with none, which fills every slot.
-pub(crate) fn run(
-    frame: &mut [f64; FRAME],
-    face: &mut [f64; FACE_STORE],
-    sphere: &mut [f64; SPHERE_STORE],
-    compared: &mut [u64; 32],
-    differ: &mut [u64; 32],
-) {
+pub(crate) fn run(set: &mut Set, tally: &mut Tally) {
     let mut seed: u64 = 0x0123_4567_89ab_cdef;
-    let mut f = [0.0; FRAME];
-    let mut g = [0.0; FACE_STORE];
-    let mut h = [0.0; SPHERE_STORE];
-    open(&mut f, &mut g, &mut h);
-    list(
-        &mut seed, 4000, 50, frame, face, sphere, &f, &mut g, &mut h, compared, differ,
-    );
-    list(
-        &mut seed, 16000, 0, frame, face, sphere, &f, &mut g, &mut h, compared, differ,
-    );
+    let mut due = Set::filled_with(0.0);
+    let _ = open(&mut due.frame, &mut due.face, &mut due.sphere);
+    list(&mut seed, 4000, 50, set, &mut due, tally);
+    list(&mut seed, 16000, 0, set, &mut due, tally);
 }

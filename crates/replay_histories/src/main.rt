@@ -12,78 +12,58 @@ mod lists;
 mod vertices;
 
 use open_calls::open;
-use replay::record::Next;
+use replay::function::Function;
 use replay::{record, report};
-use set::sizes::{FACE_STORE, FRAME, SPHERE_STORE};
+use replay_draw::buffers::Set;
+use replay_tally::Tally;
 use std::io;
 use std::io::{Read, Write};
-
-// Reads one record and compares its vertex or b × c. Answers whether there was one.
-fn replay_next<'a, R: Read, W: Write>(
-    from: &mut R,
-    to: &mut W,
-    names: &[u8],
-    face: &'a [f64; FACE_STORE],
-    sphere: &'a [f64; SPHERE_STORE],
-    compared: &mut [u64; 32],
-    differ: &mut [u64; 32],
-) -> io::Result<bool> {
-    let mut words = [0u8; 96];
-    let next = record::read(from, to, b"0221", &mut words)?;
-    let Next::Record(head) = next else {
-        return Ok(false);
-    };
-    let given = vertices::of_record(head.number, face, sphere, &words);
-    replay_tally::compare(to, names, head, &words, given, compared, differ)?;
-    Ok(true)
-}
-
-// Nothing says that the input ends, so the loop counts its records down from more than any list has.
-fn replay_all<'a, R: Read, W: Write>(
-    from: &mut R,
-    to: &mut W,
-    names: &[u8],
-    face: &'a [f64; FACE_STORE],
-    sphere: &'a [f64; SPHERE_STORE],
-    compared: &mut [u64; 32],
-    differ: &mut [u64; 32],
-) -> io::Result<()> {
-    let mut left: u32 = 0xffff_ffff;
-    while left > 0 && replay_next(from, to, names, face, sphere, compared, differ)? {
-        left -= 1;
-    }
-    if left == 0 {
-        report::too_long(to)?;
-    }
-    Ok(())
-}
 
 // What the set holds before open: a number that is no mark, and that no call writes.
 const FOREIGN: f64 = 7.5;
 
-// The names stand in the order of the counts.
-fn run<R: Read, W: Write>(from: &mut R, to: &mut W, names: &[u8]) -> io::Result<()> {
-    let mut frame = [FOREIGN; FRAME];
-    let mut face = [FOREIGN; FACE_STORE];
-    let mut sphere = [FOREIGN; SPHERE_STORE];
-    open(&mut frame, &mut face, &mut sphere);
-    let mut compared = [0u64; 32];
-    let mut differ = [0u64; 32];
-    lists::run(
-        &mut frame,
-        &mut face,
-        &mut sphere,
-        &mut compared,
-        &mut differ,
-    );
-    replay_all(from, to, names, &face, &sphere, &mut compared, &mut differ)?;
-    report::summaries(to, names, 21, &compared, &differ)
+// Runs the lists, and then compares each record's vertex or b × c. Nothing says that the input ends, so no more than so many records
+// are read.
+fn run<R: Read, W: Write>(from: &mut R, to: &mut W, functions: &[Function]) -> io::Result<()> {
+    let mut tally = Tally::new(functions);
+    let mut set = Set::filled_with(FOREIGN);
+    let _ = open(&mut set.frame, &mut set.face, &mut set.sphere);
+    lists::run(&mut set, &mut tally);
+    for _ in 0..u32::MAX {
+        let Some(record) = record::read(from, to, functions)? else {
+            return tally.report(to, u8::MAX);
+        };
+        let given = vertices::of_record(&set, &record);
+        tally.compare(to, &record, given)?;
+    }
+    report::too_long(to)?;
+    tally.report(to, u8::MAX)
 }
 
+// What is counted, in the order of its numbers. The first three have records, with so many arguments.
 fn main(rt: HostRuntime) -> io::Result<()> {
-    run(
-        &mut rt.stdin(),
-        &mut rt.stdout(),
-        b" face_vertex sphere_vertex cross_product set forward inverse place unplace companion list region forward_refused inverse_refused place_refused unplace_refused companion_refused list_refused region_refused open show step",
-    )
+    let functions = [
+        Function::new("face_vertex", 2),
+        Function::new("sphere_vertex", 2),
+        Function::new("cross_product", 1),
+        Function::new("set", 0),
+        Function::new("forward", 0),
+        Function::new("inverse", 0),
+        Function::new("place", 0),
+        Function::new("unplace", 0),
+        Function::new("companion", 0),
+        Function::new("list", 0),
+        Function::new("region", 0),
+        Function::new("forward_refused", 0),
+        Function::new("inverse_refused", 0),
+        Function::new("place_refused", 0),
+        Function::new("unplace_refused", 0),
+        Function::new("companion_refused", 0),
+        Function::new("list_refused", 0),
+        Function::new("region_refused", 0),
+        Function::new("open", 0),
+        Function::new("show", 0),
+        Function::new("step", 0),
+    ];
+    run(&mut rt.stdin(), &mut rt.stdout(), &functions)
 }

@@ -1,7 +1,7 @@
 // What a call comes to on a set, with a table or with the built-in one.
 #![tactic(auto)]
 
-mod calls;
+mod either;
 mod lists;
 mod regions;
 mod steps;
@@ -10,7 +10,7 @@ ghost use Rattle.set.specs.Outcome.{lent_mut, Becomes};
 ghost use Rattle.region_work.specs.Parts.{table_of};
 ghost use Rattle.replay_call.specs.Performed.{performed};
 
-use crate::calls::{forward_either, inverse_either, open_either, place_either, unplace_either};
+use crate::either::{forward_either, inverse_either, open_either, place_either, unplace_either};
 use crate::lists::listed;
 use crate::regions::outlined;
 use crate::steps::stepped;

@@ -1,17 +1,13 @@
 // Where a call is counted.
-ghost use Rattle.std.specs.Prelude.{◌<◌};
-
 use replay::outcome::Outcome;
 use replay_call::Call;
-use replay_draw::counts::count;
-use replay_tally::agree;
+use replay_tally::Tally;
 
 // The names stand in this order. A call is counted there refused or not; but a refused open is counted one place on, and so is a
 // refused companion of show, which takes no table, nor does show.
-fn place_of(call: Call) -> usize
-    ensures { result < 13 }
-{
+fn place_of(call: Call, refused: bool) -> usize {
     match call {
+        Call::Open if refused => 3,
         Call::Open => 2,
         Call::Forward(_, _) => 4,
         Call::Inverse(_, _) => 5,
@@ -21,27 +17,12 @@ fn place_of(call: Call) -> usize
         Call::Region(_) => 9,
         Call::Step(_) => 10,
         Call::Show(_, _) => 11,
+        Call::Ask(_, _) if refused => 13,
         Call::Ask(_, _) => 12,
     }
 }
 
 // Counts one more that was compared, and whether it differs.
-pub(crate) fn count_outcome(
-    call: Call,
-    given: Outcome,
-    due: Outcome,
-    compared: &mut [u64; 32],
-    differ: &mut [u64; 32],
-) {
-    let place = place_of(call);
-    let same = agree(given, due);
-    if due.status > 0 && place == 12 {
-        count(13, same, compared, differ);
-        return;
-    }
-    if due.status > 0 && place == 2 {
-        count(3, same, compared, differ);
-        return;
-    }
-    count(place, same, compared, differ);
+pub(crate) fn count_outcome(call: Call, given: Outcome, due: Outcome, tally: &mut Tally) {
+    tally.count(place_of(call, due.status > 0), given == due);
 }

@@ -11,35 +11,34 @@ mod lists;
 mod tables;
 
 use open_calls::open;
-use replay::report;
-use set::sizes::{FACE_STORE, FRAME, SPHERE_STORE};
+use replay::function::Function;
+use replay_draw::buffers::Set;
+use replay_tally::Tally;
 use std::io;
-use std::io::Write;
 
 // What the set holds before open: a number that is no mark, and that no call writes.
 const FOREIGN: f64 = 7.5;
 
-// The names stand in the order of the counts.
-fn run<W: Write>(to: &mut W, names: &[u8]) -> io::Result<()> {
-    let mut frame = [FOREIGN; FRAME];
-    let mut face = [FOREIGN; FACE_STORE];
-    let mut sphere = [FOREIGN; SPHERE_STORE];
-    open(&mut frame, &mut face, &mut sphere);
-    let mut compared = [0u64; 32];
-    let mut differ = [0u64; 32];
-    lists::run(
-        &mut frame,
-        &mut face,
-        &mut sphere,
-        &mut compared,
-        &mut differ,
-    );
-    report::summaries(to, names, 13, &compared, &differ)
-}
-
+// What is counted, in the order of its numbers. None has records.
 fn main(rt: HostRuntime) -> io::Result<()> {
-    run(
-        &mut rt.stdout(),
-        b" set_with open_with open_with_refused forward_with inverse_with place_with unplace_with list_with region_with step_with show companion companion_refused",
-    )
+    let functions = [
+        Function::new("set_with", 0),
+        Function::new("open_with", 0),
+        Function::new("open_with_refused", 0),
+        Function::new("forward_with", 0),
+        Function::new("inverse_with", 0),
+        Function::new("place_with", 0),
+        Function::new("unplace_with", 0),
+        Function::new("list_with", 0),
+        Function::new("region_with", 0),
+        Function::new("step_with", 0),
+        Function::new("show", 0),
+        Function::new("companion", 0),
+        Function::new("companion_refused", 0),
+    ];
+    let mut tally = Tally::new(&functions);
+    let mut set = Set::filled_with(FOREIGN);
+    let _ = open(&mut set.frame, &mut set.face, &mut set.sphere);
+    lists::run(&mut set, &mut tally);
+    tally.report(&mut rt.stdout(), u8::MAX)
 }

@@ -35,8 +35,7 @@ fn unit(q: Quat) -> Quat {
 // The built-in table, turned: the quaternions, and the axes, which are where they take the pole. The angles stay.
 fn turned(turn: Quat) -> [f64; 84] {
     let mut table = built_in();
-    let mut row: usize = 0;
-    while row < 12 {
+    for row in 0..12 {
         let at = 7 * row;
         let own = Quat {
             x: table[at + 2],
@@ -57,7 +56,6 @@ fn turned(turn: Quat) -> [f64; 84] {
         table[at + 3] = q.y;
         table[at + 4] = q.z;
         table[at + 5] = q.w;
-        row += 1;
     }
     table
 }
@@ -84,11 +82,9 @@ fn exchanged(table: [f64; 84], first: usize, second: usize) -> [f64; 84]
     requires { (first < 78) × (second < 78) }
 {
     let mut exchanged = table;
-    let mut i: usize = 0;
-    while i < 7 {
+    for i in 0..7 {
         exchanged[first + i] = table[second + i];
         exchanged[second + i] = table[first + i];
-        i += 1;
     }
     exchanged
 }
