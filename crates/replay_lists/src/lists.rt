@@ -26,6 +26,7 @@ const BLANK: PlaceResult = PlaceResult {
 };
 
 impl Lists {
+    // Room for the most positions and results of a list, on the heap.
     pub fn new(alloc: Global) -> Result<Lists, AllocError> {
         let origin = LonLat {
             longitude: Degrees(0.0),

@@ -25,6 +25,7 @@ pub struct Outline {
 const BLANK: Face = Face(Vec2 { x: 0.5, y: -0.5 });
 
 impl Outline {
+    // Room for the most positions and points of a region, on the heap.
     pub fn new(alloc: Global) -> Result<Outline, AllocError> {
         let origin = LonLat {
             longitude: Degrees(0.0),
