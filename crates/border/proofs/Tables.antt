@@ -28,19 +28,19 @@ is_off false n table e = (refl, cc)
 
 module _ (table : List Float) where
   pub rows_fit : (rows : List Float) → answered rows ≡ rows_given table → eqb (length table) 84 ≡ true
-  unfolding rows_given
+  unfolding with_table
   rows_fit rows e = (fits _ rows table e).0
 
   pub rows_are : (rows : List Float) → answered rows ≡ rows_given table → rows ≡ table
-  unfolding rows_given
+  unfolding with_table
   rows_are rows e = (fits (eqb (length table) 84) rows table e).1
 
   pub rows_off : (n : ℕ) → refused n ≡ rows_given table → eqb (length table) 84 ≡ false
-  unfolding rows_given
+  unfolding with_table
   rows_off n e = (is_off _ n table e).0
 
   pub rows_20 : (n : ℕ) → refused n ≡ rows_given table → n ≡ 20
-  unfolding rows_given
+  unfolding with_table
   rows_20 n e = (is_off (eqb (length table) 84) n table e).1
 
 -- ---- a call that is lent no set

@@ -4,13 +4,13 @@ use Rattle.answer.specs.Given.{Given, answered, refused, refuse_if}
 use Rattle.set.specs.Set.{Set}
 use Rattle.set.specs.Outcome.{Outcome}
 
--- "A table reaches a call as exactly 84 numbers": one of another length gets 20
-unfoldable pub rows_given : List Float → Given (List Float)
-rows_given table = refuse_if (not (eqb (length table) 84)) 20 (answered table)
-
--- a call with a table: 20 comes before anything else is tried
+-- a call with a table, "exactly 84 numbers": one of another length gets 20 before anything else is tried
 unfoldable pub with_table : {X : Type 0} → (List Float → Given X) → List Float → Given X
 with_table call table = refuse_if (not (eqb (length table) 84)) 20 (call table)
+
+-- the numbers of such a table
+abbrev pub rows_given : List Float → Given (List Float)
+rows_given table = with_table answered table
 
 -- the same of a call on a set, which then stays as it was
 unfoldable pub with_table_on : {X : Type 0} → (List Float → Set → Outcome X) → List Float → Set → Outcome X

@@ -6,7 +6,7 @@ ghost use Rattle.border.specs.Tables.{rows_given};
 use answer::Refusal;
 
 // The 84 numbers of a table, in their order; 20 for a table of another length.
-#[tactic(auto, unfolding(crate::specs::Tables::rows_given))]
+#[tactic(auto, unfolding(crate::specs::Tables::with_table))]
 pub fn rows(table: &[f64]) -> Result<[f64; 84], Refusal>
     ensures { given result ≡ rows_given table.now }
 {

@@ -10,7 +10,9 @@ use Rattle.strike_answers.specs.Results.{Replies}
 use Rattle.strike_answers.proofs.answers.answer_records.Given as goal
 
 abbrev pub invariant-loop-i : goal.invariant-loop-i
-invariant-loop-i l = Replies (change (set_of l.frame l.initial.face_store l.initial.sphere_store) (set_of l.frame l.face_store l.sphere_store)) (change l.initial.out l.out) 0 l.written (λ s. replies ieee ORIGINS s l.input l.i)
+invariant-loop-i l =
+    let s = change (set_of l.frame l.initial.face_store l.initial.sphere_store) (set_of l.frame l.face_store l.sphere_store) in
+    Replies s (change l.initial.out l.out) 0 l.written (λ s. replies ieee ORIGINS s l.input l.i)
     × (length l.out ≡ length l.initial.out)
     × (length l.face_store ≡ length l.initial.face_store)
     × (length l.sphere_store ≡ length l.initial.sphere_store)
