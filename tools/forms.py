@@ -58,7 +58,8 @@ def block(source, at):
 def functions(source):
     for m in re.finditer(r'(?m)^\s*(?:pub(?:\(crate\))? )?(?:extern "C" )?fn (\w+)', source):
         head_end = re.search(r'(?m)^\s*\{\s*$|\{$', source[m.start():])
-        if not head_end:
+        no_body = re.search(r'(?m);$', source[m.start():])
+        if not head_end or no_body and no_body.start() < head_end.start():
             continue
         # the body's brace stands alone in its line behind clauses, or ends the signature's line
         at = m.start() + head_end.start()

@@ -75,7 +75,7 @@ pub fn core_both(t: f64, u: f64) -> (f64, f64)
     (from_quarter(quarter.0), from_quarter(quarter.1))
 }
 
-// An angle, and the square root that is found beside it.
+// An angle, and the square root that is found beside it, by name: both are plain numbers.
 #[derive(Clone, Copy)]
 pub struct AngleAndRoot {
     pub angle: f64,

@@ -24,7 +24,8 @@ pub fn value(bits: u64) -> f64
     }
 }
 
-// The double in the eight bytes from a place on.
+// The double in the eight bytes from a place on. The bound is asked for as an index's is: each call reads another place, so that a
+// struct of bytes and place would be made for each number.
 pub fn read_double(bytes: &[u8], at: usize) -> f64
     requires { at + 8 ≤ length bytes.now }
     ensures { result ≡ double_in (take 8 (drop at bytes.now)) }

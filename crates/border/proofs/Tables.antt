@@ -1,18 +1,16 @@
 -- A C function with a table, by what `rows` gives of it: the rows, which are then the table, or 20. Assumes nothing.
 --     rows_fit, rows_are, rows_off, rows_20   what either says of the table
 --     with_rows, no_rows                      what a call with the table comes to
---     returns_with_rows, returns_20           the same as the statement of a call on a set
-use mathlib.Core.Path.{◌≡◌, refl, sym, ap, ◌∙◌, subst}
+--     with_rows_on, no_rows_on                the same of a call on a set
+--     tables                                  those four: what a C function with a table is proved by, with no answer
+use mathlib.Core.Path.{◌≡◌, refl}
 use mathlib.Core.Bool.{Bool, true, false, not}
 use mathlib.Core.List.{List}
 use Prim.Native.Nat.{ℕ}
 use lib.Dec.{eqb}
 use lib.Ieee.{Float}
 use lib.ListN.{length}
-use denote.Triple.Both.{Both}
 use Rattle.answer.specs.Given.{Given, answered, refused, refuse_if}
-use Rattle.border.specs.Returns.{Returns, ReturnsOn}
-use Rattle.border.proofs.Returns.{returns_refusal}
 use Rattle.set.specs.Set.{Set}
 use Rattle.set.specs.Outcome.{Outcome}
 use Rattle.border.specs.Tables.{rows_given, with_table, with_table_on}
@@ -63,19 +61,4 @@ module _ {X : Type 0} (call : List Float → Set → Outcome X) (table : List Fl
   unfolding with_table_on
   with_rows_on rows e = rw (rows_fit table rows e, rows_are table rows e)
 
--- its statement: nothing is written, or the call's own statement with the rows
-module _ {X L : Type 0} {set : Both Set Set} {r : ℕ} {to : Both L L} {f : X → L} (call : List Float → Set → Outcome X) (table : List Float) where
-  pub returns_20 : (n : ℕ) → refused n ≡ rows_given table → r ≡ n → to.exit ≡ to.entry → set.exit ≡ set.entry
-      → ReturnsOn set r to f (with_table_on call table)
-  returns_20 n e is kept same =
-      let given = no_rows_on call table set.entry n e in
-      record { returns = returns_refusal n (ap (λ (o : Outcome X). o.answer) given) is kept; left = same ∙ sym (ap (λ (o : Outcome X). o.set) given) }
-
-  pub returns_with_rows : (rows : List Float) → answered rows ≡ rows_given table → ReturnsOn set r to f (call rows)
-      → ReturnsOn set r to f (with_table_on call table)
-  returns_with_rows rows e known =
-      let given = sym (with_rows_on call table set.entry rows e) in
-      record {
-        returns = subst (λ (g : Given X). Returns g r to f) (ap (λ (o : Outcome X). o.answer) given) known.returns;
-        left = known.left ∙ ap (λ (o : Outcome X). o.set) given;
-      }
+pub ruleset tables = (no_rows, with_rows, no_rows_on, with_rows_on)

@@ -1,5 +1,5 @@
 -- The arguments of the C functions as values, and values as the numbers that a C function leaves for them. Definitions only.
-use Rattle.std.specs.Prelude.{ℕ, List, [], ◌∷◌, Float}
+use Rattle.std.specs.Prelude.{ℕ, Bool, cond, List, [], ◌∷◌, Float}
 use Rattle.coordinates.specs.declared.coords.Face.{Face}
 use Rattle.coordinates.specs.declared.lonlat.LonLat.{LonLat}
 use Rattle.coordinates.specs.declared.spherical.Spherical.{Spherical}
@@ -15,6 +15,14 @@ spherical theta phi = record { theta = record { 0 = theta }; phi = record { 0 = 
 -- ---- answers
 abbrev pub id : ℕ → ℕ
 id o = o
+
+-- 1 for what is so, and 0 for what isn't
+abbrev pub mark : Bool → ℕ
+mark b = cond b 1 0
+
+-- an offset and a length
+abbrev pub part : List ℕ → List ℕ
+part p = p
 
 -- "theta, phi", "longitude, latitude", "x, y"
 abbrev pub angles : Spherical → List Float

@@ -2,7 +2,7 @@
 ghost use Rattle.answer.specs.Answer.{given};
 ghost use Rattle.std.specs.Prelude.{◌≡◌};
 ghost use Rattle.border.specs.Returns.{Returns, contents, contents_of};
-ghost use Rattle.border.specs.Calls.{id as Calls·id, angles, degrees, point, id_and_point};
+ghost use Rattle.border.specs.Calls.{id as Calls·id, mark, part, angles, degrees, point, id_and_point};
 
 use answer::Refusal;
 use coordinates::coords::Face;
@@ -27,6 +27,28 @@ impl Numbers for u8 {
     ghost standing = { Calls·id };
 
     fn numbers(self) -> u8 {
+        self
+    }
+}
+
+// 1 for true, and 0 for false.
+impl Numbers for bool {
+    type Lent = u8;
+
+    ghost standing = { mark };
+
+    fn numbers(self) -> u8 {
+        u8::from(self)
+    }
+}
+
+// An offset, then a length.
+impl Numbers for [usize; 2] {
+    type Lent = [usize; 2];
+
+    ghost standing = { part };
+
+    fn numbers(self) -> [usize; 2] {
         self
     }
 }

@@ -10,10 +10,5 @@ use answer::Refusal;
 pub fn rows(table: &[f64]) -> Result<[f64; 84], Refusal>
     ensures { given result ≡ rows_given table.now }
 {
-    if table.len() != 84 {
-        return Err(Refusal::TableFile);
-    }
-    let mut rows = [0.0; 84];
-    rows.copy_from_slice(table);
-    Ok(rows)
+    <[f64; 84]>::try_from(table).or(Err(Refusal::TableFile))
 }

@@ -2,23 +2,19 @@
 // written; a refusal writes nothing.
 ghost use Rattle.answer.specs.Answer.{given};
 ghost use Rattle.arithmetic.specs.Arith.{ieee};
-ghost use Rattle.set.specs.Outcome.{lent, Leaves};
+ghost use Rattle.set.specs.Lent.{LeavesSet};
 ghost use Rattle.dodecahedron.specs.Work.{outcome_if_there};
 
 use answer::Refusal;
 use dodecahedron::work::Work;
+use set::set::Set;
 use used_slots::write_used;
 
 // The answer of what was worked out, its slots written.
-pub fn leave<T: Drop>(
-    frame: &[f64],
-    face_store: &mut [f64],
-    sphere_store: &mut [f64],
-    work: Result<Work<T>, Refusal>,
-) -> Result<T, Refusal>
-    ensures { Leaves (lent frame face_store sphere_store) (given result) (λ s. outcome_if_there ieee s (given work)) }
+pub fn leave<T: Drop>(set: &mut Set<'_>, work: Result<Work<T>, Refusal>) -> Result<T, Refusal>
+    ensures { LeavesSet set.old set.new (given result) (λ s. outcome_if_there ieee s (given work)) }
 {
     let Work { answer, used } = work?;
-    write_used(frame, face_store, sphere_store, used);
+    write_used(set, used);
     Ok(answer)
 }

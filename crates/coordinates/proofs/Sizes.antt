@@ -36,10 +36,6 @@ pub polar_gamma : (p : Face) → Bounded (to_polar ieee p).gamma.0 16·0
 unfolding to_polar
 polar_gamma p = atan2_small p.0.y p.0.x
 
-pub spherical_theta : (c : Cartesian) → Bounded (to_spherical ieee c).theta.0 16·0
-unfolding to_spherical
-spherical_theta c = atan2_small c.0.y c.0.x
-
 pub spherical_phi : (c : Cartesian) → Bounded (to_spherical ieee c).phi.0 16·0
 unfolding to_spherical
 spherical_phi c =
@@ -194,11 +190,6 @@ half_difference v w = div_bounded binary64 (sub_bounded binary64 w v tt) (own 2�
 
 pub half_inside : (x y : Float) → outside x ≡ false → outside y ≡ false → outside (div binary64 (sub binary64 y x) 2·0) ≡ false
 half_inside x y h j = inside (div binary64 (sub binary64 y x) 2·0) (half_difference (inside_bounded x h) (inside_bounded y j))
-
--- a polar angle less or more an origin's, which a table has within ±8
-pub turned_back : {x a : Float} → Bounded x 16·0 → Bounded a 8·0 → Bounded (sub binary64 x a) 24·0
-unfolding add of_bits
-turned_back v w = sub_bounded binary64 v w tt
 
 pub turned_on : {x a : Float} → Bounded x 16·0 → Bounded a 8·0 → Bounded (add binary64 x a) 24·0
 unfolding add of_bits

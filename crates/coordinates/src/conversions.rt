@@ -21,7 +21,7 @@ pub fn check_lon_lat(lonlat: LonLat) -> Result<(), Refusal>
     check_number(lonlat.latitude.0, 90.0)
 }
 
-// Theta, then phi: each for 5 and then 6.
+// Theta, then phi: each for 5 and then 6. Two lines as check_lon_lat's, which name the numbers and their limits: all that there is.
 #[tactic(auto, unfolding(crate::specs::Conversions::check_spherical))]
 pub fn check_spherical(spherical: Spherical) -> Result<(), Refusal>
     ensures { given result ≡ check_spherical spherical }

@@ -1,15 +1,14 @@
 // The 132 points that are tried as rows of the frame.
-ghost use Rattle.std.specs.Prelude.{◌≡◌, true, false, ◌<◌};
+ghost use Rattle.std.specs.Prelude.{◌≡◌, false, ◌<◌};
 ghost use Rattle.arithmetic.specs.Arith.{ieee};
 ghost use Rattle.elementary.specs.Sine.{beyond, outside};
 ghost use Rattle.coordinates.specs.Constants.{8·0};
-ghost use Rattle.origin.specs.Table.{numbers_sound};
 ghost use Rattle.crs.specs.Candidates.{around, face_center, vertex, midpoint, candidate};
 
 use coordinates::base::Radians;
 use coordinates::coords::Cartesian;
 use coordinates::spherical::Spherical;
-use origin::table::origin_in;
+use origin::table::{SoundTable, origin_in};
 use origin::utils::Origin;
 use quaternion::transform_quat;
 use transforms::coordinate_transforms::to_cartesian;
@@ -36,34 +35,34 @@ fn around(origin: Origin, m: u8, phi: f64) -> Cartesian
 }
 
 // The centre of face k of a table.
-fn face_center(table: &[f64; 84], k: u8) -> Cartesian
-    requires { (numbers_sound table.now ≡ true) × (k < 12) }
-    ensures { result ≡ face_center ieee table.now k }
+fn face_center(table: SoundTable<'_>, k: u8) -> Cartesian
+    requires { k < 12 }
+    ensures { result ≡ face_center ieee table.entry.rows.now k }
 {
-    let origin = origin_in(table, k);
+    let origin = origin_in(table.rows, k);
     to_cartesian(origin.axis)
 }
 
 // Vertex k % 5 of face k / 5 of a table.
-fn vertex(table: &[f64; 84], k: u8) -> Cartesian
-    requires { (numbers_sound table.now ≡ true) × (k < 60) }
-    ensures { result ≡ vertex ieee table.now k }
+fn vertex(table: SoundTable<'_>, k: u8) -> Cartesian
+    requires { k < 60 }
+    ensures { result ≡ vertex ieee table.entry.rows.now k }
 {
-    around(origin_in(table, k / 5), 2 * (k % 5) + 1, PHI_VERTEX)
+    around(origin_in(table.rows, k / 5), 2 * (k % 5) + 1, PHI_VERTEX)
 }
 
 // The midpoint of edge k % 5 of face k / 5 of a table.
-fn midpoint(table: &[f64; 84], k: u8) -> Cartesian
-    requires { (numbers_sound table.now ≡ true) × (k < 60) }
-    ensures { result ≡ midpoint ieee table.now k }
+fn midpoint(table: SoundTable<'_>, k: u8) -> Cartesian
+    requires { k < 60 }
+    ensures { result ≡ midpoint ieee table.entry.rows.now k }
 {
-    around(origin_in(table, k / 5), 2 * (k % 5), PHI_MIDPOINT)
+    around(origin_in(table.rows, k / 5), 2 * (k % 5), PHI_MIDPOINT)
 }
 
 // The candidate with the number k, over a table. In the Rust's order: 12 centres, five vertices of each face, five midpoints of each.
-pub fn candidate(table: &[f64; 84], k: u8) -> Cartesian
-    requires { (numbers_sound table.now ≡ true) × (k < 132) }
-    ensures { result ≡ candidate ieee table.now k }
+pub fn candidate(table: SoundTable<'_>, k: u8) -> Cartesian
+    requires { k < 132 }
+    ensures { result ≡ candidate ieee table.entry.rows.now k }
 {
     if k < 12 {
         return face_center(table, k);

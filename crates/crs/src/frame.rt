@@ -2,13 +2,13 @@
 ghost use Rattle.std.specs.Prelude.{◌≡◌, true, ◌++◌, ◌+◌, ◌≤◌, length, take, drop};
 ghost use Rattle.answer.specs.Answer.{given};
 ghost use Rattle.arithmetic.specs.Arith.{ieee};
-ghost use Rattle.origin.specs.Table.{numbers_sound};
 ghost use Rattle.crs.specs.Frame.{near, find_vertex, add_row, frame_rows};
 
 use crate::candidates::candidate;
 use answer::Refusal;
 use coordinates::coords::Cartesian;
 use coordinates::vec3::Vec3;
+use origin::table::SoundTable;
 
 // Strictly nearer than 1e-5: the square of the distance is below 1e-10, so that no root is taken.
 fn near(point: Cartesian, vertex: Cartesian) -> bool
@@ -60,10 +60,9 @@ fn add(rows: &mut [f64], used: usize, point: Cartesian) -> usize
 
 // Writes the rows of a table's frame to the front of `rows`, which has room for every candidate. How
 // many numbers they are.
-pub fn build_frame(table: &[f64; 84], rows: &mut [f64; 396]) -> usize
-    requires { numbers_sound table.now ≡ true }
-    ensures used { result ≡ length (frame_rows ieee table.now) }
-    ensures rows { rows.new ≡ frame_rows ieee table.now ++ drop result rows.old }
+pub fn build_frame(table: SoundTable<'_>, rows: &mut [f64; 396]) -> usize
+    ensures used { result ≡ length (frame_rows ieee table.entry.rows.now) }
+    ensures rows { rows.new ≡ frame_rows ieee table.entry.rows.now ++ drop result rows.old }
 {
     let mut used: usize = 0;
     for k in 0..132 {

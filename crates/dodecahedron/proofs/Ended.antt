@@ -41,10 +41,6 @@ use Rattle.dodecahedron.proofs.Worked.{forward_used, inverse_used}
 abbrev pub tests_on : Arith → List Float → Set → ℕ → Given (Unit {0})
 tests_on A table s o = and_then (check_with A table s) (check_origin o)
 
--- the built-in table passes
-pub built_in_tests : (s : Set) (o : ℕ) → tests_on ieee ORIGINS s o ≡ check_call s o
-built_in_tests s o = ap (λ (g : Given (Unit {0})). and_then g (check_origin o)) (built_in_check s)
-
 then_thrice : {X : Type 0} (a b c : Given (Unit {0})) (rest : Given X) → and_then a (and_then b (and_then c rest)) ≡ and_then (and_then (and_then a b) c) rest
 then_thrice a b c rest = then_then a b (and_then c rest) ∙ then_then (and_then a b) c rest
 

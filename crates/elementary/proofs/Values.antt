@@ -1,6 +1,6 @@
 -- Floor and round on values, for every finite x: `floor` is the whole number r with r ≤ x < r + 1, `round` the nearest, halves away
 -- from zero (specs/Values). Assumes nothing.
-use Rattle.std.proofs.Common.{◌≡◌, ℕ, suc, ◌+◌, ◌-◌, ◌*◌, ◌/◌, ◌%◌, ◌^◌, ◌<◌, ◌≤◌, Bool, true, false, T, ◌⊎◌, sym, refl, ap, ◌∙◌, subst, inl, inr, le_trans, le_refl, mul-le-mul_right, mod-lt, div-lt_iff_lt-mul, eq-zero-or-pos, mul-lt-mul_of_pos_right, div-add-mod', mul-one, div-mul-le_self, arith, lit≤}
+use Rattle.std.proofs.Common.{◌≡◌, ℕ, suc, ◌+◌, ◌-◌, ◌*◌, ◌%◌, ◌^◌, ◌<◌, ◌≤◌, Bool, true, false, T, ◌⊎◌, sym, refl, ap, ◌∙◌, subst, inl, inr, le_trans, le_refl, mul-le-mul_right, mod-lt, div-lt_iff_lt-mul, eq-zero-or-pos, mul-lt-mul_of_pos_right, div-add-mod', mul-one, div-mul-le_self, arith, lit≤}
 use native.Mathlib.Nat.{mul-mod_left}
 use lib.Ieee.{Float, nan, inf, fin, binary64, fits}
 use lib.Ieee.{round as rounded}

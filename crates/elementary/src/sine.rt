@@ -1,6 +1,6 @@
 // What sine and cosine together answer (crates sine and sine_inside).
 
-// Sine and cosine of one angle.
+// Sine and cosine of one angle, by name: a pair would not say which is which.
 #[derive(Clone, Copy)]
 pub struct SinCos {
     pub sin: f64,

@@ -5,7 +5,7 @@
 // A slice is two arguments in C, a pointer and then how many numbers there are. An answer of two
 // numbers is lent as a reference to an array of two, in C a pointer: it has no length to be wrong.
 // The caller sees to it that a pointer is not null, that so many numbers stand there, and that no
-// two that are lent overlap.
+// two that are lent overlap. A set is its three buffers one by one, as C has them.
 #![tactic(auto)]
 
 ghost use Rattle.std.specs.Prelude.{◌≡◌};
@@ -20,9 +20,9 @@ ghost use Rattle.border.specs.Returns.{Returns, contents};
 ghost use Rattle.border.specs.Calls.{id as Calls·id, angles, degrees, lon_lat, spherical};
 
 use border::answers::put;
-use coordinates::base::{Degrees, Radians};
-use coordinates::lonlat::LonLat;
-use coordinates::spherical::Spherical;
+use border::arguments;
+use nearest::origins::BuiltIn;
+use transforms::conversions::{from_lon_lat, to_lon_lat};
 
 // Open: writes the frame and fills both stores with 0.0.
 #[unsafe(no_mangle)]
@@ -30,7 +30,7 @@ pub extern "C" fn a5_open(frame: &mut [f64], face_store: &mut [f64], sphere_stor
     ensures answer { result ≡ status (open_on ieee ORIGINS (lent_mut frame face_store sphere_store).entry).answer }
     ensures left { Becomes (lent_mut frame face_store sphere_store) (λ s. (open_on ieee ORIGINS s).set) }
 {
-    let opened = open_calls::open(frame, face_store, sphere_store);
+    let opened = open_calls::open(BuiltIn, frame, face_store, sphere_store);
     answer::status(opened)
 }
 
@@ -39,10 +39,7 @@ pub extern "C" fn a5_open(frame: &mut [f64], face_store: &mut [f64], sphere_stor
 pub extern "C" fn a5_nearest(theta: f64, phi: f64, id: &mut u8) -> u8
     ensures { Returns (nearest_given ieee ORIGINS (spherical theta phi)) result (contents id) Calls·id }
 {
-    let nearest = nearest_calls::nearest(Spherical {
-        theta: Radians(theta),
-        phi: Radians(phi),
-    });
+    let nearest = nearest_calls::nearest(BuiltIn, arguments::spherical(theta, phi));
     put(nearest, id)
 }
 
@@ -51,10 +48,7 @@ pub extern "C" fn a5_nearest(theta: f64, phi: f64, id: &mut u8) -> u8
 pub extern "C" fn a5_from_lon_lat(longitude: f64, latitude: f64, to: &mut [f64; 2]) -> u8
     ensures { Returns (from_lon_lat_given ieee (lon_lat longitude latitude)) result (contents to) angles }
 {
-    let position = transforms::conversions::from_lon_lat(LonLat {
-        longitude: Degrees(longitude),
-        latitude: Degrees(latitude),
-    });
+    let position = from_lon_lat(arguments::lon_lat(longitude, latitude));
     put(position, to)
 }
 
@@ -63,9 +57,6 @@ pub extern "C" fn a5_from_lon_lat(longitude: f64, latitude: f64, to: &mut [f64; 
 pub extern "C" fn a5_to_lon_lat(theta: f64, phi: f64, to: &mut [f64; 2]) -> u8
     ensures { Returns (to_lon_lat_given ieee (spherical theta phi)) result (contents to) degrees }
 {
-    let lonlat = transforms::conversions::to_lon_lat(Spherical {
-        theta: Radians(theta),
-        phi: Radians(phi),
-    });
+    let lonlat = to_lon_lat(arguments::spherical(theta, phi));
     put(lonlat, to)
 }

@@ -11,7 +11,8 @@ use caption_box::CaptionBox;
 use coordinates::coords::Face;
 use coordinates::vec2::Vec2;
 
-// The face point of two numbers.
+// The face point of two numbers. It is this crate's own: what the other C functions share is in crate border, which this crate
+// does not stand on.
 fn face_point(x: f64, y: f64) -> Face
     ensures { result ≡ face x y }
 {

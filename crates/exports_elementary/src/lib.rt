@@ -5,30 +5,18 @@ ghost use Rattle.std.specs.Prelude.{◌≡◌};
 ghost use Rattle.std.specs.Float.{binary64};
 ghost use Rattle.std.specs.Float.Ieee.{rem};
 ghost use Rattle.arithmetic.specs.Arith.{ieee};
-ghost use Rattle.answer.specs.Answer.{given};
 ghost use Rattle.elementary.specs.Sine.{sin_given};
 ghost use Rattle.exports_elementary.specs.Value.{value_or_nan};
 
-use answer::Refusal;
 use remainder::remainder;
 use sine::sin;
-
-// The value, and a NaN where there is none.
-fn value(outcome: Result<f64, Refusal>) -> f64
-    ensures { result ≡ value_or_nan (given outcome) }
-{
-    match outcome {
-        Ok(value) => value,
-        Err(_) => 0.0 / 0.0,
-    }
-}
 
 // The sine, and a NaN where the angle is outside.
 #[unsafe(no_mangle)]
 pub extern "C" fn a5_sin(x: f64) -> f64
     ensures { result ≡ value_or_nan (sin_given ieee x) }
 {
-    value(sin(x))
+    sin(x).unwrap_or(0.0 / 0.0)
 }
 
 // What x / y leaves.

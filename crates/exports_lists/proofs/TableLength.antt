@@ -1,6 +1,7 @@
 -- A list as a C function.
 --     told                 the call's contract, and the number of its check
 --     no_rows, with_rows   with a table, by what is known of its rows: refused with 20, or what the call with the rows comes to
+--     c_functions          those three: what a C function is proved by, with no answer
 -- Assumes nothing.
 use mathlib.Core.Path.{◌≡◌, ap, ◌∙◌}
 use Prim.Native.Nat.{ℕ}
@@ -28,3 +29,5 @@ module _ (A : Arith) (table : List Float) (s : Set) (ps : List LonLat) (rs : Lis
   pub with_rows : (rows : List Float) → answered rows ≡ rows_given table → list_with A table s ps rs ≡ place_list_on A rows s ps rs
   unfolding list_with
   with_rows rows e = rw (rows_fit table rows e, rows_are table rows e)
+
+pub ruleset c_functions = (told, no_rows, with_rows)

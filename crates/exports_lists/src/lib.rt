@@ -1,8 +1,10 @@
 // A list of positions placed in one call, as C functions. Crate exports has the calls on a set; these go into the same
 // library, and what is said there of pointers and lengths holds here too. A position and a result are the structs that
-// bindings/a5.h has as a5_position and a5_result.
-#![tactic(auto)]
+// bindings/a5.h has as a5_position and a5_result. C has a function for each table, and the three buffers one by one: its
+// interface is fixed.
+#![tactic(auto, using(crate::proofs::TableLength::c_functions))]
 
+mod call;
 pub mod tables;
 
 ghost use Rattle.std.specs.Prelude.{◌≡◌};
@@ -12,8 +14,11 @@ ghost use Rattle.set.specs.Outcome.{lent};
 ghost use Rattle.place_list.specs.Lists.{place_list_on};
 ghost use Rattle.exports_lists.specs.Lists.{returned, in_c};
 
+use crate::call::listed;
 use coordinates::lonlat::LonLat;
+use nearest::origins::BuiltIn;
 use place_list::PlaceResult;
+use set::set::Set;
 
 // Place a list: a result for each position goes to results.
 #[unsafe(no_mangle)]
@@ -27,6 +32,10 @@ pub extern "C" fn a5_place_list(
     ensures { returned result results.new (lent frame face_store sphere_store).exit
         ≡ in_c (place_list_on ieee ORIGINS (lent frame face_store sphere_store).entry positions.now results.old) }
 {
-    let listed = list_calls::place_list(frame, face_store, sphere_store, positions, results);
-    answer::status(listed)
+    let mut set = Set {
+        frame,
+        face_store,
+        sphere_store,
+    };
+    listed(BuiltIn, &mut set, positions, results)
 }

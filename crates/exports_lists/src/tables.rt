@@ -4,9 +4,11 @@ ghost use Rattle.arithmetic.specs.Arith.{ieee};
 ghost use Rattle.set.specs.Outcome.{lent};
 ghost use Rattle.exports_lists.specs.Lists.{returned, in_c, list_with};
 
+use crate::call::listed;
 use border::rows::rows;
 use coordinates::lonlat::LonLat;
 use place_list::PlaceResult;
+use set::set::Set;
 
 // Place a list with a table: a table that isn't 84 numbers long is refused with 20 before anything else is tried.
 #[unsafe(no_mangle)]
@@ -25,13 +27,10 @@ pub extern "C" fn a5_place_list_with(
         Ok(rows) => rows,
         Err(refusal) => return refusal.number(),
     };
-    let listed = table_lists::place_list_with(
-        rows,
+    let mut set = Set {
         frame,
         face_store,
         sphere_store,
-        positions,
-        results,
-    );
-    answer::status(listed)
+    };
+    listed(rows, &mut set, positions, results)
 }

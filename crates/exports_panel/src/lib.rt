@@ -1,7 +1,7 @@
 // A step of the caption panel as C functions: with the built-in table, and with a table, which is a pointer and a length in C, as in
 // crate exports_tables. Crate exports has the calls on a set; these go into the same library, and what is said there of pointers
-// and lengths holds here too.
-#![tactic(auto)]
+// and lengths holds here too. C has a function for each table, and the three buffers one by one: its interface is fixed.
+#![tactic(auto, using(crate::proofs::Panel::tables))]
 
 ghost use Rattle.arithmetic.specs.Arith.{ieee};
 ghost use Rattle.origin.specs.Origins.{ORIGINS};
@@ -11,6 +11,8 @@ ghost use Rattle.panel.specs.Step.{step_on};
 ghost use Rattle.exports_panel.specs.Panel.{StepsInC, step_with};
 
 use border::rows::rows;
+use nearest::origins::BuiltIn;
+use set::set::Set;
 
 // One step: carries out the command in the block, and writes there what it comes to.
 #[unsafe(no_mangle)]
@@ -22,7 +24,12 @@ pub extern "C" fn a5_panel_step(
 ) -> u8
     ensures { StepsInC (lent frame face_store sphere_store) (lent_bytes block) result (step_on ieee ORIGINS) }
 {
-    let stepped = panel_step::step(frame, face_store, sphere_store, block);
+    let mut set = Set {
+        frame,
+        face_store,
+        sphere_store,
+    };
+    let stepped = panel_step::step(BuiltIn, &mut set, block);
     answer::status(stepped)
 }
 
@@ -41,6 +48,11 @@ pub extern "C" fn a5_panel_step_with(
         Ok(rows) => rows,
         Err(refusal) => return refusal.number(),
     };
-    let stepped = table_panel::step_with(rows, frame, face_store, sphere_store, block);
+    let mut set = Set {
+        frame,
+        face_store,
+        sphere_store,
+    };
+    let stepped = panel_step::step(rows, &mut set, block);
     answer::status(stepped)
 }

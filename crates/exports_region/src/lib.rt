@@ -1,13 +1,14 @@
 // A region on one face as C functions: with the built-in table, and with a table, which is a pointer and a length in C, as in
 // crate exports_tables. Crate exports has the calls on a set; these go into the same library, and what is said there of pointers
 // and lengths holds here too. A position, a point and a box are the structs that bindings/a5.h has as a5_position, a5_point and
-// a5_box.
-#![tactic(auto)]
+// a5_box. C has a function for each table, and the three buffers one by one: its interface is fixed.
+#![tactic(auto, using(region_border::proofs::Told::c_functions))]
 
 ghost use Rattle.std.specs.Prelude.{◌≡◌};
 ghost use Rattle.arithmetic.specs.Arith.{ieee};
 ghost use Rattle.origin.specs.Origins.{ORIGINS};
 ghost use Rattle.set.specs.Outcome.{lent};
+ghost use Rattle.set.specs.Lent.{SameBuffers, held};
 ghost use Rattle.region_work.specs.Region.{region_on};
 ghost use Rattle.region_border.specs.Regions.{returned, in_c, region_with};
 
@@ -15,7 +16,27 @@ use border::rows::rows;
 use caption_box::CaptionBox;
 use coordinates::coords::Face;
 use coordinates::lonlat::LonLat;
+use nearest::origins::{BuiltIn, Origins};
+use region::region;
 use region_border::put_region;
+use set::set::Set;
+
+// A region, as C is told of it: its points go to points, its origin to origin, and its box to caption.
+fn outlined<O: Origins>(
+    origins: O,
+    set: &mut Set<'_>,
+    positions: &[LonLat],
+    points: &mut [Face],
+    origin: &mut u8,
+    caption: &mut CaptionBox,
+) -> u8
+    ensures same { SameBuffers set.old set.new }
+    ensures outlined { returned result points.new origin.new caption.new (held set.new)
+        ≡ in_c (region_on ieee (O.table origins) (held set.old) positions.now points.old)
+        origin.old caption.old }
+{
+    put_region(region(origins, set, positions, points), origin, caption)
+}
 
 // A region: its points go to points, its origin to origin, and its box to caption.
 #[unsafe(no_mangle)]
@@ -32,8 +53,12 @@ pub extern "C" fn a5_region(
         ≡ in_c (region_on ieee ORIGINS (lent frame face_store sphere_store).entry positions.now points.old)
         origin.old caption.old }
 {
-    let outcome = region::region(frame, face_store, sphere_store, positions, points);
-    put_region(outcome, origin, caption)
+    let mut set = Set {
+        frame,
+        face_store,
+        sphere_store,
+    };
+    outlined(BuiltIn, &mut set, positions, points, origin, caption)
 }
 
 // A region with a table: a table that isn't 84 numbers long is refused with 20 before anything else is tried.
@@ -56,6 +81,10 @@ pub extern "C" fn a5_region_with(
         Ok(rows) => rows,
         Err(refusal) => return refusal.number(),
     };
-    let outcome = region::region_with(rows, frame, face_store, sphere_store, positions, points);
-    put_region(outcome, origin, caption)
+    let mut set = Set {
+        frame,
+        face_store,
+        sphere_store,
+    };
+    outlined(rows, &mut set, positions, points, origin, caption)
 }

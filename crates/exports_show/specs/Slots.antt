@@ -8,10 +8,6 @@ use Rattle.show.specs.declared.StoreKind.TheVariants as kind
 unfoldable pub store_named : ℕ → StoreKind
 store_named k = cond (eqb k 0) kind.Face kind.Sphere
 
--- the companion leaves 1 for a filled slot and 0 for an empty one
-abbrev pub mark : Bool → ℕ
-mark filled = cond filled 1 0
-
 -- the offset and the length of a slot's coordinates in its store: those behind its mark
 abbrev pub coordinates_at : StoreKind → ℕ → List ℕ
 coordinates_at s k = (k * width_in s + 1) ∷ coordinates_in s ∷ []

@@ -2,13 +2,17 @@
 // pointers, lengths and answers holds here too.
 #![tactic(auto)]
 
-ghost use Rattle.std.specs.Prelude.{◌≡◌, ◌<◌};
-ghost use Rattle.show.specs.Show.{slot_given, slots_in};
+ghost use Rattle.std.specs.Prelude.{◌≡◌};
+ghost use Rattle.answer.specs.Given.{bind, answered};
+ghost use Rattle.answer.specs.Answer.{given};
+ghost use Rattle.show.specs.Show.{slot_given};
+ghost use Rattle.border.specs.Calls.{mark};
 ghost use Rattle.border.specs.Returns.{Returns, contents};
-ghost use Rattle.exports_show.specs.Slots.{store_named, coordinates_at, mark, part as Slots·part};
+ghost use Rattle.exports_show.specs.Slots.{store_named, part as Slots·part};
 
-use set::sizes::{FACE_COORDINATES, FACE_WIDTH, SPHERE_COORDINATES, SPHERE_WIDTH};
-use show::StoreKind;
+use answer::Refusal;
+use border::answers::put;
+use show::{StoreKind, slot_state};
 
 // 0 names the face store and every other number the sphere store, as C reads a truth value:
 // document 01 has no refusal for a kind that is neither.
@@ -34,30 +38,25 @@ pub extern "C" fn a5_slot_state(
     ensures { Returns (slot_given face_store.now sphere_store.now (store_named kind) slot) result
         (contents filled) mark }
 {
-    let named = store_named(kind);
-    let given = show::slot_state(face_store, sphere_store, named, slot);
-    match given {
-        Ok(true) => {
-            *filled = 1;
-            0
-        }
-        Ok(false) => {
-            *filled = 0;
-            0
-        }
-        Err(refusal) => refusal.number(),
-    }
+    let given = slot_state(face_store, sphere_store, store_named(kind), slot);
+    put(given, filled)
 }
 
-// Where a slot's coordinates are in its store: from behind the mark on, and how many.
-fn coordinates(named: StoreKind, slot: usize) -> [usize; 2]
-    requires { slot < slots_in named }
-    ensures { result ≡ coordinates_at named slot }
+// Where a slot's coordinates are in its store: from behind the mark on, and how many; 0 and 0 for an empty slot.
+fn part_shown(
+    face_store: &[f64],
+    sphere_store: &[f64],
+    named: StoreKind,
+    slot: usize,
+) -> Result<[usize; 2], Refusal>
+    ensures { given result ≡ bind (slot_given face_store.now sphere_store.now named slot)
+        (λ filled. answered (Slots·part named slot filled)) }
 {
-    match named {
-        StoreKind::Face => [slot * FACE_WIDTH + 1, FACE_COORDINATES],
-        StoreKind::Sphere => [slot * SPHERE_WIDTH + 1, SPHERE_COORDINATES],
-    }
+    Ok(if slot_state(face_store, sphere_store, named, slot)? {
+        [slot * named.width() + 1, named.coordinates()]
+    } else {
+        [0, 0]
+    })
 }
 
 // Show: the offset and the length of a filled slot's coordinates go to part, and 0 and 0 where the
@@ -73,17 +72,6 @@ pub extern "C" fn a5_show(
     ensures { Returns (slot_given face_store.now sphere_store.now (store_named kind) slot) result
         (contents part) (Slots·part (store_named kind) slot) }
 {
-    let named = store_named(kind);
-    let given = show::slot_state(face_store, sphere_store, named, slot);
-    match given {
-        Ok(true) => {
-            *part = coordinates(named, slot);
-            0
-        }
-        Ok(false) => {
-            *part = [0, 0];
-            0
-        }
-        Err(refusal) => refusal.number(),
-    }
+    let given = part_shown(face_store, sphere_store, store_named(kind), slot);
+    put(given, part)
 }

@@ -1,7 +1,7 @@
 // Open and nearest with a table of origins as C functions, and the table file. What crate exports says of pointers, lengths and answers
 // holds here too. A table is a pointer and a length in C: one that isn't 84 numbers long is refused with 20 before anything else
-// is tried, and the 84 numbers are then handed to the call by value.
-#![tactic(auto)]
+// is tried, and the 84 numbers are then handed to the call by value. C has a function for each table: its interface is fixed.
+#![tactic(auto, using(border::proofs::Tables::tables))]
 
 pub mod files;
 
@@ -16,9 +16,8 @@ ghost use Rattle.border.specs.Calls.{id as Calls·id, spherical};
 ghost use Rattle.border.specs.Tables.{with_table, with_table_on};
 
 use border::answers::put;
+use border::arguments;
 use border::rows::rows;
-use coordinates::base::Radians;
-use coordinates::spherical::Spherical;
 
 // Open with a table: writes the frame and fills both stores with 0.0.
 #[unsafe(no_mangle)]
@@ -35,7 +34,7 @@ pub extern "C" fn a5_open_with(
         Ok(rows) => rows,
         Err(refusal) => return refusal.number(),
     };
-    let opened = open_calls::open_with(rows, frame, face_store, sphere_store);
+    let opened = open_calls::open(rows, frame, face_store, sphere_store);
     answer::status(opened)
 }
 
@@ -48,10 +47,6 @@ pub extern "C" fn a5_nearest_with(table: &[f64], theta: f64, phi: f64, id: &mut 
         Ok(rows) => rows,
         Err(refusal) => return refusal.number(),
     };
-    let point = Spherical {
-        theta: Radians(theta),
-        phi: Radians(phi),
-    };
-    let nearest = nearest_calls::nearest_with(rows, point);
+    let nearest = nearest_calls::nearest(rows, arguments::spherical(theta, phi));
     put(nearest, id)
 }

@@ -51,7 +51,8 @@ fn last_level(wishes: &[u16]) -> u16
     level
 }
 
-// Each channel gets the smaller of its wish and the level; then one round hands out so many calls.
+// Each channel gets the smaller of its wish and the level; then one round hands out so many calls. The grants are written by
+// an index: what a zip with `iter_mut` has written, no proof knows.
 fn last_round(wishes: &[u16], level: u16, calls: u16, grants: &mut [u16])
     requires { length grants.old ≡ length wishes.now }
     ensures { grants.new ≡ round calls wishes.now (capped level wishes.now) }

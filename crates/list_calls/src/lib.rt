@@ -1,72 +1,60 @@
-// Radar lists in one go (document 02, Paper 1): the call `place_list`. Every position of a list is placed, from first to last,
-// and its result filled. The work is done by functions on one position and on lengths; `place_list`, which is lent the positions
-// and the results, is a thin loop over them. Crate place_list has the definitions, and crate table_lists the call with a table
-// of origins.
+// Radar lists in one go (document 02, Paper 1): the call `place_list`, with the built-in table or one that is handed over. Every
+// position of a list is placed, from first to last, and its result filled. The work is done by functions on one position and on
+// lengths; `place_list`, which is lent the positions and the results, is a thin loop over them. Crate place_list has the definitions.
 #![tactic(auto)]
 
 ghost use Rattle.std.specs.Prelude.{◌≡◌};
 ghost use Rattle.answer.specs.Answer.{given};
 ghost use Rattle.arithmetic.specs.Arith.{ieee};
-ghost use Rattle.origin.specs.Origins.{ORIGINS};
-ghost use Rattle.set.specs.Outcome.{lent, lent_shared};
+ghost use Rattle.set.specs.Lent.{seen, held, SameBuffers};
 ghost use Rattle.place_list.specs.Lists.{step, placed_one, check_list, called, place_list_on};
 
 use answer::Refusal;
 use coordinates::lonlat::LonLat;
 use list_parts::{check_counts, result, turns};
+use nearest::origins::Origins;
 use place_list::PlaceResult;
-use set::set::check_set;
+use set::checks::check_with;
+use set::set::{Set, SetRef};
 
 // Places one position.
-fn place_one(
-    frame: &[f64],
-    face_store: &mut [f64],
-    sphere_store: &mut [f64],
-    position: LonLat,
-) -> PlaceResult
-    ensures { step result (lent frame face_store sphere_store).exit
-        ≡ placed_one ieee ORIGINS (lent frame face_store sphere_store).entry position }
+fn place_one<O: Origins>(origins: &O, set: &mut Set<'_>, position: LonLat) -> PlaceResult
+    ensures same { SameBuffers set.old set.new }
+    ensures stepped { step result (held set.new) ≡ placed_one ieee (O.table origins.now) (held set.old) position }
 {
-    let given = calls::place(frame, face_store, sphere_store, position);
-    result(given)
+    result(calls::place(*origins, set, position))
 }
 
-// 1, 2, 3, 14.
-fn check_list(
-    frame: &[f64],
-    face_store: &[f64],
-    sphere_store: &[f64],
+// 1, 2, 3, 21, 22, 14.
+#[tactic(auto, unfolding(place_list::specs::Lists::check_list))]
+fn check_list<O: Origins>(
+    origins: &O,
+    set: SetRef<'_>,
     positions: usize,
     results: usize,
 ) -> Result<(), Refusal>
-    ensures { given result ≡ check_list ieee ORIGINS (lent_shared frame face_store sphere_store).entry positions results }
+    ensures { given result ≡ check_list ieee (O.table origins.now) (seen set.entry) positions results }
 {
-    check_set(frame, face_store, sphere_store)?;
+    check_with(origins, set)?;
     check_counts(positions, results)
 }
 
 // Places a list of positions, from first to last, and fills a result for each. A position that is refused has the number
-// in its result, and the next one follows; 1, 2, 3 and 14 refuse the list itself, and then nothing is written.
-pub fn place_list(
-    frame: &[f64],
-    face_store: &mut [f64],
-    sphere_store: &mut [f64],
+// in its result, and the next one follows; 1, 2, 3, 21, 22 and 14 refuse the list itself, and then nothing is written.
+pub fn place_list<O: Origins>(
+    origins: O,
+    set: &mut Set<'_>,
     positions: &[LonLat],
     results: &mut [PlaceResult],
 ) -> Result<(), Refusal>
-    ensures { called (given result) results.new (lent frame face_store sphere_store).exit
-        ≡ place_list_on ieee ORIGINS (lent frame face_store sphere_store).entry positions.now results.old }
+    ensures same { SameBuffers set.old set.new }
+    ensures listed { called (given result) results.new (held set.new)
+        ≡ place_list_on ieee (O.table origins) (held set.old) positions.now results.old }
 {
-    let check = check_list(
-        frame,
-        face_store,
-        sphere_store,
-        positions.len(),
-        results.len(),
-    );
+    let check = check_list(&origins, set.view(), positions.len(), results.len());
     let n = turns(check, positions.len());
     for i in 0..n {
-        results[i] = place_one(frame, face_store, sphere_store, positions[i]);
+        results[i] = place_one(&origins, set, positions[i]);
     }
     check
 }

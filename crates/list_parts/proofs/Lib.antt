@@ -1,4 +1,2 @@
 -- Laws behind the proofs of the functions.
 pub mod Loop
-pub mod Numbers
-pub mod Kept

@@ -1,8 +1,11 @@
--- What a call on a list has after each turn of its loop, and that the last of it is what its contract says.
+-- What a call on a list has after each turn of its loop, with any table, and that the last of it is what its contract says.
 --     at_turn        the results and the set once the first i positions are placed
 --     at_end         once all are placed, they are what placing in turn gives, where there is a result for each position
 --     within         a turn's index lies in both lists
---     listed         what the loop leaves is what `place_list_on` says, whether the call is refused or not
+--     Turned         the loop's invariant: the results and the set are those of turn i. It holds before the first turn
+--     long           there are as many results as there were
+--     turned_next    it is kept over a turn
+--     turned_end     what the loop leaves is what `place_list_on` says, whether the call is refused or not
 -- Assumes nothing.
 use mathlib.Core.Path.{◌≡◌, refl, sym, ◌∙◌, ap, subst}
 use mathlib.Core.Bool.{not}
@@ -12,7 +15,7 @@ use native.Mathlib.Nat.{not-suc-le-zero}
 use native.Mathlib.Omega.{arith}
 use lib.Dec.{eqb}
 use lib.Ieee.{Float, nan}
-use lib.ListN.{length, get_or, set}
+use lib.ListN.{length, get_or, set, length-set}
 use borrow.Author.Tests.{eqb-true, not-false}
 use Rattle.answer.specs.Given.{Given, answered, refused, passed}
 use Rattle.answer.proofs.Given.{refuse_answered, then_answered}
@@ -21,7 +24,7 @@ use Rattle.coordinates.specs.declared.lonlat.LonLat.{LonLat}
 use Rattle.set.specs.Set.{Set}
 use Rattle.set.specs.Checks.{check_with}
 use Rattle.place_list.specs.declared.PlaceResult.{PlaceResult}
-use Rattle.place_list.specs.Lists.{Placed, Called, placed, placed_one, placed_in_turn, check_counts, check_list, turns_of, unless_refused, place_list_on}
+use Rattle.place_list.specs.Lists.{Step, step, Placed, Called, called, placed, placed_one, placed_in_turn, check_counts, check_list, turns_of, unless_refused, place_list_on}
 
 -- what stands behind the end of a list of positions
 abbrev pub nowhere : LonLat
@@ -53,7 +56,7 @@ module _ (A : Arith) (table : List Float) where
   ahead s p ps r rs zero = refl
   ahead s p ps r rs (suc i) = ap (turned (p ∷ ps) (suc i)) (ahead s p ps r rs i)
 
-  pub at_end : (s : Set) (ps : List LonLat) (rs : List PlaceResult) → length ps ≡ length rs → at_turn s ps rs (length ps) ≡ placed_in_turn A table s ps
+  at_end : (s : Set) (ps : List LonLat) (rs : List PlaceResult) → length ps ≡ length rs → at_turn s ps rs (length ps) ≡ placed_in_turn A table s ps
   at_end s [] [] l = refl
   at_end s [] (r ∷ rs) l = absurd (not_none (sym l))
   at_end s (p ∷ ps) [] l = absurd (not_none l)
@@ -62,7 +65,7 @@ module _ (A : Arith) (table : List Float) where
       ahead s p ps r rs (length ps) ∙ ap (led one.result) (at_end one.set ps rs (same_tail l))
 
 -- ---- a call that passed has a set of the right lengths, and a result for each position
-pub list_passed : (A : Arith) (table : List Float) (s : Set) (m n : ℕ) → check_list A table s m n ≡ passed → (check_with A table s ≡ passed) × (m ≡ n)
+list_passed : (A : Arith) (table : List Float) (s : Set) (m n : ℕ) → check_list A table s m n ≡ passed → (check_with A table s ≡ passed) × (m ≡ n)
 unfolding check_list check_counts
 list_passed A table s m n e =
     let tests = then_answered (check_with A table s) (check_counts m n) tt e in
@@ -75,7 +78,23 @@ within A table s m n (answered u) i e l = (l, subst (λ (j : ℕ). i < j) (list_
 within A table s m n (refused c) i e l = absurd (not-suc-le-zero l)
 
 module _ (A : Arith) (table : List Float) (s : Set) (ps : List LonLat) (rs : List PlaceResult) where
-  abbrev pub ended : Given (Unit {0}) → Placed → Called
+  -- what the loop has once i positions are placed
+  abbrev pub Turned : ℕ → List PlaceResult → Set → Type 0
+  Turned i results t = placed results t ≡ at_turn A table s ps rs i
+
+  turn_long : (i : ℕ) → length (at_turn A table s ps rs i).results ≡ length rs
+  turn_long zero = refl
+  turn_long (suc i) = length-set (at_turn A table s ps rs i).results i _ ∙ turn_long i
+
+  pub long : (i : ℕ) {results : List PlaceResult} {t : Set} → Turned i results t → length results ≡ length rs
+  long i at = ap (λ (d : Placed). length d.results) at ∙ turn_long i
+
+  pub turned_next : (i : ℕ) (r : PlaceResult) {results : List PlaceResult} {t t' : Set} → Turned i results t
+      → step r t' ≡ placed_one A table t (get_or ps i nowhere) → Turned (suc i) (set results i r) t'
+  turned_next i r {results} at e =
+      ap (λ (one : Step). placed (set results i one.result) one.set) e ∙ ap (turned A table ps i) at
+
+  abbrev ended : Given (Unit {0}) → Placed → Called
   ended g d = record { answer = g; left = d }
 
   abbrev by_check : Given (Unit {0}) → Placed
@@ -85,7 +104,10 @@ module _ (A : Arith) (table : List Float) (s : Set) (ps : List LonLat) (rs : Lis
   all_turns (answered u) e = at_end A table s ps rs (list_passed A table s (length ps) (length rs) (sym e)).1
   all_turns (refused c) e = refl
 
-  pub listed : (g : Given (Unit {0})) (n : ℕ) → g ≡ check_list A table s (length ps) (length rs) → n ≡ turns_of g (length ps)
-      → ended g (at_turn A table s ps rs n) ≡ place_list_on A table s ps rs
-  listed g n e turns =
-      ap (λ (k : ℕ). ended g (at_turn A table s ps rs k)) turns ∙ ap (ended g) (all_turns g e) ∙ ap (λ (h : Given (Unit {0})). ended h (by_check h)) e
+  pub turned_end : (g : Given (Unit {0})) (n : ℕ) {results : List PlaceResult} {t : Set} → Turned n results t
+      → g ≡ check_list A table s (length ps) (length rs) → n ≡ turns_of g (length ps) → called g results t ≡ place_list_on A table s ps rs
+  turned_end g n at e turns =
+      ap (ended g) at
+      ∙ ap (λ (k : ℕ). ended g (at_turn A table s ps rs k)) turns
+      ∙ ap (ended g) (all_turns g e)
+      ∙ ap (λ (h : Given (Unit {0})). ended h (by_check h)) e

@@ -1,5 +1,5 @@
-// Radar lists in one go (document 02, Paper 1): what the calls on a list share, with a table of origins and without one. A result,
-// 14, and how many positions are placed; and the laws behind their loops.
+// Radar lists in one go (document 02, Paper 1): what the calls on lists of positions share. A result, 14, and how many positions
+// are placed; and the laws behind their loop.
 #![tactic(auto)]
 
 ghost use Rattle.std.specs.Prelude.{◌≡◌};

@@ -3,18 +3,19 @@
 // would be built and taken apart beside `Spherical`, in each caller, by the proof that the clause asks.
 #![tactic(auto)]
 
-ghost use Rattle.std.specs.Prelude.{◌≡◌, true, false};
+ghost use Rattle.std.specs.Prelude.{◌≡◌, false};
 ghost use Rattle.std.specs.Float.{binary64};
 ghost use Rattle.std.specs.Float.Ieee.{mul, div};
 ghost use Rattle.arithmetic.specs.Arith.{ieee};
 ghost use Rattle.elementary.specs.Sine.{outside, sin};
 ghost use Rattle.coordinates.specs.Constants.{2·0};
 ghost use Rattle.origin.specs.Origins.{ORIGINS};
-ghost use Rattle.origin.specs.Table.{numbers_sound};
 ghost use Rattle.nearest.specs.Nearest.{least, haversine, haversines, nearest_origin};
 
+pub mod origins;
+
 use coordinates::spherical::Spherical;
-use origin::table::origin_in;
+use origin::table::{SoundTable, origin_in};
 use sine_inside::sin_inside;
 
 // Modified haversine formula of the Rust: it grows with the angle between the two. The sine of the
@@ -124,25 +125,23 @@ pub fn find_nearest_origin(point: Spherical) -> u8
 }
 
 // From the point to each of a table's twelve axes.
-fn haversines_in(table: &[f64; 84], point: Spherical) -> [f64; 12]
-    requires table_value { numbers_sound table.now ≡ true }
-    requires theta_value { (outside point.theta.0 ≡ false) × (outside point.phi.0 ≡ false) }
-    ensures { result ≡ haversines ieee table.now point }
+fn haversines_in(table: SoundTable<'_>, point: Spherical) -> [f64; 12]
+    requires { (outside point.theta.0 ≡ false) × (outside point.phi.0 ≡ false) }
+    ensures { result ≡ haversines ieee table.entry.rows.now point }
 {
     let sine = sin_inside(point.phi.0);
     let mut distances = [0.0; 12];
     for k in 0..12 {
-        distances[k as usize] = haversine_by(point, sine, origin_in(table, k).axis);
+        distances[k as usize] = haversine_by(point, sine, origin_in(table.rows, k).axis);
     }
     distances
 }
 
 // The lowest-numbered origin of a table with the least haversine, without the checks of the call.
 #[tactic(auto, unfolding(crate::specs::Nearest::nearest_origin))]
-pub fn find_nearest_in(table: &[f64; 84], point: Spherical) -> u8
-    requires table_value { numbers_sound table.now ≡ true }
-    requires theta_value { (outside point.theta.0 ≡ false) × (outside point.phi.0 ≡ false) }
-    ensures { result ≡ nearest_origin ieee table.now point }
+pub fn find_nearest_in(table: SoundTable<'_>, point: Spherical) -> u8
+    requires { (outside point.theta.0 ≡ false) × (outside point.phi.0 ≡ false) }
+    ensures { result ≡ nearest_origin ieee table.entry.rows.now point }
 {
     let distances = haversines_in(table, point);
     least(&distances)

@@ -12,10 +12,12 @@ ghost use Rattle.set.specs.Open.{open_on};
 
 use answer::Refusal;
 use crs::frame::build_frame;
+use origin::table::SoundTable;
 use set::sizes::FRAME;
 
 // Opens a set where all checks have passed: writes the frame of the table and empties both stores, or
-// refuses with 7. The frame is built apart, so that a refusal leaves what was lent as it was.
+// refuses with 7. The frame is built apart, so that a refusal leaves what was lent as it was. It is written, so that the buffers
+// are lent one by one, as in open.
 pub fn open_checked(
     table: &[f64; 84],
     frame: &mut [f64],
@@ -25,8 +27,10 @@ pub fn open_checked(
     requires { check_with ieee table.now (set_of frame.old face_store.old sphere_store.old) ≡ passed }
     ensures { Leaves (lent_mut frame face_store sphere_store) (given result) (open_on ieee table.now) }
 {
+    // room for every candidate: there is no heap
     let mut rows = [0.0; 396];
-    let used = build_frame(table, &mut rows);
+    let sound = SoundTable { rows: table };
+    let used = build_frame(sound, &mut rows);
     if used != FRAME {
         return Err(Refusal::FrameRows);
     }

@@ -24,7 +24,6 @@ use Rattle.coordinates.proofs.Sizes.{inside_8}
 use Rattle.origin.specs.Origins.{ORIGINS, origin_at}
 use Rattle.origin.specs.Table.{within, sound, row_sound, every_row, numbers_sound}
 use Rattle.origin.specs.declared.utils.Origin.{Origin}
-use Rattle.origin.proofs.BuiltIn.{built_in_rows}
 use Rattle.origin.proofs.BuiltInPasses.{built_in_passes}
 use Rattle.origin.proofs.Check.{passed_sound}
 
@@ -160,9 +159,6 @@ module _ (table : List Float) (s : numbers_sound table ≡ true) where
 pub origins_sound : numbers_sound ORIGINS ≡ true
 origins_sound = passed_sound ieee ORIGINS built_in_passes
 
-pub origins_small : (k : ℕ) → Small (origin_at ORIGINS k)
-origins_small = table_small ORIGINS origins_sound built_in_rows
-
 -- ---- as a contract asks
 
 module _ (o : Origin) (h : Small o) where
@@ -172,10 +168,3 @@ module _ (o : Origin) (h : Small o) where
   pub small_angle : beyond 8·0 o.angle.0 ≡ false
   unfolding of_bits
   small_angle = not_beyond o.angle.0 1 (pos 3) h.turn
-
-module _ (k : ℕ) where
-  pub axis_inside : (outside (origin_at ORIGINS k).axis.theta.0 ≡ false) × (outside (origin_at ORIGINS k).axis.phi.0 ≡ false)
-  axis_inside = small_axis (origin_at ORIGINS k) (origins_small k)
-
-  pub angle_small : beyond 8·0 (origin_at ORIGINS k).angle.0 ≡ false
-  angle_small = small_angle (origin_at ORIGINS k) (origins_small k)

@@ -1,15 +1,22 @@
 // A table of twelve origins: 84 numbers, a row an origin, in final order: axis theta, axis phi, quaternion
 // x, y, z, w, angle. What its numbers must be, and the origin of a row.
-ghost use Rattle.std.specs.Prelude.{◌≡◌, ◌<◌};
+ghost use Rattle.std.specs.Prelude.{◌≡◌, ◌<◌, true};
 ghost use Rattle.answer.specs.Answer.{given};
 ghost use Rattle.arithmetic.specs.Arith.{ieee};
 ghost use Rattle.origin.specs.Origins.{origin_at};
-ghost use Rattle.origin.specs.Table.{within, row_sound, is_unit, check_table};
+ghost use Rattle.origin.specs.Table.{within, row_sound, numbers_sound, is_unit, check_table};
 
 use crate::utils::{Origin, Quat};
 use answer::Refusal;
 use coordinates::base::Radians;
 use coordinates::spherical::Spherical;
+
+// A table whose numbers are finite and in their ranges, as 21 asks.
+#[derive(Clone, Copy)]
+pub struct SoundTable<'a> {
+    pub rows: &'a [f64; 84],
+    ghost sound: { numbers_sound rows.now ≡ true },
+}
 
 // The origin with the number id in a table.
 pub fn origin_in(table: &[f64; 84], id: u8) -> Origin

@@ -25,7 +25,7 @@ use Rattle.panel.specs.Step.{command_in, block_by, carried_out, check_step, unle
 use Rattle.panel.specs.EveryStep.{Same, AfterCommand, AfterNothing, EveryStep, OfEveryStep}
 use Rattle.panel.specs.declared.registers.Command.{Command}
 use Rattle.panel.specs.declared.registers.Command.TheVariants as command
-use Rattle.panel.proofs.Carried.{block_long}
+use Rattle.panel.proofs.Passed.{step_passed}
 use Rattle.panel.proofs.Blocks.{written, written_length, written_before, written_refusal}
 use Rattle.panel.proofs.Blocks.{ended_length, ended_other, ended_command, ended_status, ended_line}
 
@@ -181,7 +181,7 @@ module _ (A : Arith) (table : List Float) (s : Set) (b : List ℕ) where
         nothing = λ p. refused_answers_nothing n tt (sym e ∙ p);
       }
   by_check (answered u) e =
-      let long = block_long A table s b e in
+      let long = step_passed A table s b e in
       let kept = carried_kept long (command_in A b) in
       record {
         mask = kept.mask;
@@ -243,4 +243,4 @@ module _ (A : Arith) (table : List Float) (s : Set) (b : List ℕ) (n : ℕ) (ab
       by : (g : Given (Unit {0})) → check_step A table s b ≡ g
           → get_or (unless_refused g (carried_out A table s b (command_in A b)) (panel b s)).block REFUSAL 0 ≡ n → ⊥
       by (refused m) e = refused_answers_nothing m tt (sym e ∙ passes)
-      by (answered u) e = carried_number (block_long A table s b e) (command_in A b) (asks A b h)
+      by (answered u) e = carried_number (step_passed A table s b e) (command_in A b) (asks A b h)

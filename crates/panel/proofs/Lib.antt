@@ -1,4 +1,4 @@
--- Laws of the registers and of a step's contract, and what holds of every step.
+-- Laws of the registers, and what holds of every step.
 pub mod Blocks
-pub mod Carried
+pub mod Passed
 pub mod EveryStep

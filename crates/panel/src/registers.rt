@@ -2,6 +2,9 @@
 use coordinates::coords::Face;
 use coordinates::lonlat::LonLat;
 
+// How many bytes a block has.
+pub const BLOCK: usize = 32;
+
 // What a block asks for: nothing, place, unplace on an origin, or a command that there isn't.
 #[derive(Clone, Copy)]
 pub enum Command {

@@ -1,16 +1,12 @@
-// Forward and inverse on a set that passes 1 to 4, on the origin that has the number id, without the
-// checks of their numbers. Nothing is written here.
+// Forward and inverse on a set and an origin that pass 1 to 4, without the checks of their numbers. Nothing is written here.
 #![tactic(auto)]
 
 ghost use Rattle.std.specs.Prelude.{◌≡◌, false, ◌+◌, ◌*◌, ◌≤◌, length};
-ghost use Rattle.answer.specs.Given.{passed};
 ghost use Rattle.answer.specs.Answer.{given};
 ghost use Rattle.arithmetic.specs.Arith.{ieee};
-ghost use Rattle.elementary.specs.Sine.{beyond, outside};
-ghost use Rattle.coordinates.specs.Constants.{8·0};
+ghost use Rattle.elementary.specs.Sine.{outside};
 ghost use Rattle.set.specs.Sizes.{FRAME};
-ghost use Rattle.set.specs.Checks.{check_call};
-ghost use Rattle.set.specs.Outcome.{held, lent_shared};
+ghost use Rattle.set.specs.Lent.{seen};
 ghost use Rattle.dodecahedron.specs.Projection.{row_at, frame_constants, polar_about, forward_core, inverse_core};
 
 use answer::Refusal;
@@ -24,6 +20,7 @@ use equal_area::equal_area::TriangleConstants;
 use origin::utils::Origin;
 use plane::to_polar;
 use point_triangles::take;
+use set::on_origin::OnOrigin;
 use transforms::coordinate_transforms::{to_cartesian, to_spherical};
 
 // Row k of a frame.
@@ -66,26 +63,18 @@ fn polar_about(origin: Origin, v: Cartesian) -> Polar
     }
 }
 
-// Forward on a set that passes 1 to 4: the triangles of the point, and the point from one to the
+// Forward on an origin: the triangles of the point, and the point from one to the
 // other by equal areas.
-pub fn forward_core(
-    frame: &[f64],
-    face_store: &[f64],
-    sphere_store: &[f64],
-    spherical: Spherical,
-    origin: Origin,
-    id: u8,
-) -> Result<Work<Face>, Refusal>
-    requires id_value { (check_call (held frame face_store sphere_store) id ≡ passed) × (beyond 8·0 origin.angle.0 ≡ false) }
-    requires theta_value { (outside spherical.theta.0 ≡ false) × (outside spherical.phi.0 ≡ false) }
-    ensures { given result ≡ forward_core ieee origin (lent_shared frame face_store sphere_store).entry spherical id }
+pub fn forward_core(on: OnOrigin<'_>, spherical: Spherical) -> Result<Work<Face>, Refusal>
+    requires { (outside spherical.theta.0 ≡ false) × (outside spherical.phi.0 ≡ false) }
+    ensures { given result ≡ forward_core ieee on.entry.origin.origin (seen on.entry.set) spherical on.entry.id }
 {
     let unprojected = to_cartesian(spherical);
-    let polar = polar_about(origin, unprojected);
-    let taken = take(frame, face_store, sphere_store, origin, id, polar)?;
+    let polar = polar_about(on.origin.origin, unprojected);
+    let taken = take(on.set, on.origin, on.id, polar)?;
     let used = taken.used;
     let answer = equal_area_forward::forward(
-        frame_constants(frame),
+        frame_constants(on.set.frame),
         unprojected,
         used.triangle,
         used.bxc,
@@ -94,23 +83,15 @@ pub fn forward_core(
     Ok(Work { answer, used })
 }
 
-// Inverse on a set that passes 1 to 4: the triangles of the point, and the point back from one to
+// Inverse on an origin: the triangles of the point, and the point back from one to
 // the other; 19 where the angle of its area share is outside.
-pub fn inverse_core(
-    frame: &[f64],
-    face_store: &[f64],
-    sphere_store: &[f64],
-    face: Face,
-    origin: Origin,
-    id: u8,
-) -> Result<Work<Spherical>, Refusal>
-    requires { (check_call (held frame face_store sphere_store) id ≡ passed) × (beyond 8·0 origin.angle.0 ≡ false) }
-    ensures { given result ≡ inverse_core ieee origin (lent_shared frame face_store sphere_store).entry face id }
+pub fn inverse_core(on: OnOrigin<'_>, face: Face) -> Result<Work<Spherical>, Refusal>
+    ensures { given result ≡ inverse_core ieee on.entry.origin.origin (seen on.entry.set) face on.entry.id }
 {
-    let taken = take(frame, face_store, sphere_store, origin, id, to_polar(face))?;
+    let taken = take(on.set, on.origin, on.id, to_polar(face))?;
     let used = taken.used;
     let unprojected = equal_area::equal_area::inverse(
-        frame_constants(frame),
+        frame_constants(on.set.frame),
         face,
         taken.face_triangle,
         used.triangle,

@@ -1,2 +1,2 @@
--- What the proofs of both functions share.
+-- Laws behind the proof of the function.
 pub mod Whole

@@ -1,6 +1,7 @@
 -- A region's answer as C is told of it.
 --     told                 the contracts of the call and of what is told of its answer are the C function's
 --     no_rows, with_rows   a region with a table, by what is known of its rows
+--     c_functions          those three: what a C function is proved by, with no answer
 -- Assumes nothing.
 use mathlib.Core.Path.{◌≡◌, refl, ◌∙◌, ap}
 use Prim.Native.Nat.{ℕ}
@@ -42,3 +43,5 @@ module _ (A : Arith) (table : List Float) (s : Set) (ps : List LonLat) (rs : Lis
   pub with_rows : (rows : List Float) → answered rows ≡ rows_given table → region_with A table s ps rs ≡ region_on A rows s ps rs
   unfolding region_with
   with_rows rows e = rw (rows_fit table rows e, rows_are table rows e)
+
+pub ruleset c_functions = (told, no_rows, with_rows)

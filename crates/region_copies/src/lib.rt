@@ -17,7 +17,8 @@ fn blank() -> [LonLat; 256] {
     }; 256]
 }
 
-// The positions in an array, the first 256 of them where there are more.
+// The positions in an array, the first 256 of them where there are more: there is no heap, and what is lent is copied, so that
+// nothing is written before the call answers. std's copy_from_slice asks for equal lengths.
 pub fn copy_in(positions: &[LonLat]) -> [LonLat; 256]
     ensures { CopiedIn positions.now result }
 {

@@ -1,10 +1,8 @@
 // The positions of an outline worked out on the set as it stands: nothing is written here.
 ghost use Rattle.std.specs.Prelude.{◌≤◌, ◌≡◌, take};
 ghost use Rattle.arithmetic.specs.Arith.{ieee};
-ghost use Rattle.set.specs.Outcome.{lent_shared};
-ghost use Rattle.answer.specs.Answer.{given};
-ghost use Rattle.dodecahedron.specs.Calls.{place_given};
-ghost use Rattle.region_work.specs.Parts.{table_of, slot_empty, nothing_seen, seen_next, given_found, survey_of};
+ghost use Rattle.set.specs.Lent.{seen};
+ghost use Rattle.region_work.specs.Parts.{slot_empty, nothing_seen, seen_next, given_found, survey_of};
 
 use answer::Refusal;
 use calls::place_work;
@@ -13,43 +11,26 @@ use coordinates::coords::Face;
 use coordinates::lonlat::LonLat;
 use coordinates::vec2::Vec2;
 use dodecahedron::place::Place;
-use dodecahedron::work::Work;
+use nearest::origins::Origins;
 use region_work::seen::{Found, Seen};
+use set::set::SetRef;
 use set::sizes::{FACE_WIDTH, SPHERE_WIDTH};
 use stores::slots::{face_slot, is_filled, source_slot, sphere_slot};
 use stores::used::Used;
-use table_calls::place_work_with;
-
-// What place gives for a position, with nothing written: with the table that is lent, or with the built-in one.
-fn look(
-    table: Option<&[f64; 84]>,
-    frame: &[f64],
-    face_store: &[f64],
-    sphere_store: &[f64],
-    position: LonLat,
-) -> Result<Work<Place>, Refusal>
-    ensures { given result
-        ≡ place_given ieee (table_of table.entry) (lent_shared frame face_store sphere_store).entry position }
-{
-    match table {
-        None => place_work(frame, face_store, sphere_store, position),
-        Some(table) => place_work_with(table, frame, face_store, sphere_store, position),
-    }
-}
 
 // Whether a slot that a position uses is empty, and so will be written.
 #[tactic(auto, unfolding(region_work::specs::Parts::slot_empty))]
-fn slot_empty(frame: &[f64], face_store: &[f64], sphere_store: &[f64], used: Used) -> bool
-    ensures { result ≡ slot_empty (lent_shared frame face_store sphere_store).entry used }
+fn slot_empty(set: SetRef<'_>, used: Used) -> bool
+    ensures { result ≡ slot_empty (seen set.entry) used }
 {
     !is_filled(
-        face_store,
+        set.face_store,
         face_slot(used.index, used.reflected) * FACE_WIDTH,
     ) || !is_filled(
-        face_store,
+        set.face_store,
         source_slot(used.index, used.reflected) * FACE_WIDTH,
     ) || !is_filled(
-        sphere_store,
+        set.sphere_store,
         sphere_slot(used.origin, used.index, used.reflected) * SPHERE_WIDTH,
     )
 }
@@ -92,24 +73,22 @@ fn see(seen: Seen, place: Place, empty: bool) -> Seen
 }
 
 // Works the first n positions out, up to the first one that place refuses.
-pub(crate) fn survey(
-    table: Option<&[f64; 84]>,
-    frame: &[f64],
-    face_store: &[f64],
-    sphere_store: &[f64],
+pub(crate) fn survey<O: Origins>(
+    origins: &O,
+    set: SetRef<'_>,
     positions: [LonLat; 256],
     n: usize,
 ) -> Result<Found, Refusal>
     requires { n ≤ 256 }
     ensures { given_found result n
-        ≡ survey_of ieee (table_of table.entry) (lent_shared frame face_store sphere_store).entry nothing_seen (take n positions) }
+        ≡ survey_of ieee (O.table origins.now) (seen set.entry) nothing_seen (take n positions) }
 {
     let mut points = [Face(Vec2 { x: 0.0, y: 0.0 }); 256];
     let mut seen = nothing_seen();
     for i in 0..n {
-        let done = look(table, frame, face_store, sphere_store, positions[i])?;
+        let done = place_work(origins, set, positions[i])?;
         points[i] = done.answer.face;
-        let empty = slot_empty(frame, face_store, sphere_store, done.used);
+        let empty = slot_empty(set, done.used);
         seen = see(seen, done.answer, empty);
     }
     Ok(Found { seen, points })

@@ -34,9 +34,6 @@ from_place {X} n i xs d h l =
     ∙ ap (λ (x : X). x ∷ drop (suc i) (take n xs)) (get_or-take n xs i d h)
     ∙ ap (λ (k : ℕ). get_or xs i d ∷ drop k (take n xs)) (sym (one_more i))
 
-none_left : {X : Type 0} (n i : ℕ) (xs : List X) → n ≤ i → n ≤ length xs → drop i (take n xs) ≡ []
-none_left n i xs h l = drop_of_length-le (take n xs) {i = i} (omega (arith, length-take-le n xs l))
-
 module _ (A : Arith) (table : List Float) where
   -- ---- placing in turn
 
@@ -46,9 +43,6 @@ module _ (A : Arith) (table : List Float) where
   keep_goes s s' n i ps d h l e =
       ap (λ (t : Set). (placed_in_turn A table t (drop (i + 1) (take n ps))).set) e
       ∙ ap (λ (qs : List LonLat). (placed_in_turn A table s qs).set) (sym (from_place n i ps d h l))
-
-  pub keep_ends : (s : Set) (n i : ℕ) (ps : List LonLat) → n ≤ i → n ≤ length ps → s ≡ (placed_in_turn A table s (drop i (take n ps))).set
-  keep_ends s n i ps h l = ap (λ (qs : List LonLat). (placed_in_turn A table s qs).set) (sym (none_left n i ps h l))
 
   -- ---- the survey
 
@@ -61,13 +55,6 @@ module _ (A : Arith) (table : List Float) where
     abbrev pub going : Seen → List Face → ℕ → List LonLat → Given Surveyed
     going seen points i ps = behind (take i points) (survey_of A table s seen (drop i ps))
 
-    pub survey_starts : (seen : Seen) (ps : List LonLat) → behind [] (survey_of A table s seen ps) ≡ survey_of A table s seen ps
-    survey_starts seen ps = by (survey_of A table s seen ps)
-      where
-        by : (g : Given Surveyed) → behind [] g ≡ g
-        by (answered d) = refl
-        by (refused n) = refl
-
     module _ (seen : Seen) (points : List Face) (n i : ℕ) (ps : List LonLat) (d : LonLat) (h : i < n) (l : n ≤ length ps) where
       -- what is still to come, by what place gives for the next position
       next_is : (g : Given (Work Place)) → place_given A table s (get_or ps i d) ≡ g → survey_of A table s seen (drop i (take n ps))
@@ -75,9 +62,6 @@ module _ (A : Arith) (table : List Float) where
           bind (survey_of A table s (seen_next seen w.answer (slot_empty s w.used)) (drop (i + 1) (take n ps))) λ rest.
           answered (surveyed rest.seen (w.answer.face ∷ rest.points))
       next_is g e = ap (survey_of A table s seen) (from_place n i ps d h l) ∙ rw e
-
-      pub survey_stops : (k : ℕ) → place_given A table s (get_or ps i d) ≡ refused k → refused k ≡ going seen points i (take n ps)
-      survey_stops k e = sym (ap (behind (take i points)) (next_is (refused k) e))
 
       pub survey_goes : (seen' : Seen) (empty : Bool) (w : Work Place) → i < length points → place_given A table s (get_or ps i d) ≡ answered w
           → empty ≡ slot_empty s w.used → seen' ≡ seen_next seen w.answer empty
@@ -95,10 +79,3 @@ module _ (A : Arith) (table : List Float) where
               ≡ behind (take i points) (bind g λ r. answered (surveyed r.seen (w.answer.face ∷ r.points)))
           shifted (answered r) = ap (λ (fs : List Face). answered (surveyed r.seen fs)) (snoc (take i points) w.answer.face r.points)
           shifted (refused k) = refl
-
-    pub survey_ends : (seen : Seen) (points : List Face) (n i : ℕ) (ps : List LonLat) → i ≤ n → n ≤ i → n ≤ length ps
-        → answered (surveyed seen (take n points)) ≡ going seen points i (take n ps)
-    survey_ends seen points n i ps g h l =
-        ap (λ (k : ℕ). answered (surveyed seen (take k points))) (let e : n ≡ i = omega arith in e)
-        ∙ ap (λ (fs : List Face). answered (surveyed seen fs)) (sym (append-nil (take i points)))
-        ∙ ap (λ (qs : List LonLat). behind (take i points) (survey_of A table s seen qs)) (sym (none_left n i ps h l))

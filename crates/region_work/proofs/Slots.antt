@@ -1,5 +1,4 @@
--- The slots that a position uses: their numbers are small, a mark that was looked at, and that nothing is written where none is empty.
--- Assumes nothing.
+-- The slots that a position uses: nothing is written where none is empty. Assumes nothing.
 use mathlib.Core.Path.{◌≡◌, refl, sym, ap, ◌∙◌}
 use mathlib.Core.Bool.{Bool, true, false, not, ◌||◌, true≢false}
 use mathlib.Core.List.{List}
@@ -14,22 +13,6 @@ use Rattle.stores.specs.Used.{face_written, faces_written, sphere_written, used_
 use Rattle.stores.specs.declared.used.Used.{Used}
 use Rattle.stores.proofs.Written.{full_stays}
 use Rattle.region_work.specs.Parts.{slot_empty}
-
-pub face_small : (i : ℕ) (r : Bool) → i < 256 → face_slot i r < 1000
-face_small i true h = omega arith
-face_small i false h = omega arith
-
-pub source_small : (i : ℕ) (r : Bool) → i < 256 → source_slot i r < 1000
-source_small i true h = omega arith
-source_small i false h = omega arith
-
-pub sphere_small : (o i : ℕ) (r : Bool) → o < 256 → i < 256 → sphere_slot o i r < 4000
-sphere_small o i true g h = omega arith
-sphere_small o i false g h = omega arith
-
--- a slot's mark, by the slot's number and what the code found there
-pub mark_known : (xs : List Float) (w : ℕ) {k k' : ℕ} {b : Bool} → k ≡ k' → b ≡ filled xs (k * w) → filled xs (k' * w) ≡ b
-mark_known xs w e f = ap (λ (k : ℕ). filled xs (k * w)) (sym e) ∙ sym f
 
 -- ---- none is empty
 

@@ -1,14 +1,12 @@
 -- The region call on plain values, for the functions that it is made of: positions and points stand in arrays of 256, of which the first
 -- n count. Definitions only.
-use Rattle.std.specs.Prelude.{ℕ, Bool, false, cond, not, ◌||◌, List, [], ◌∷◌, ◌*◌, eqb, Float, take, Option, Some, None, Result}
-use Rattle.std.specs.Borrow.{Bor}
+use Rattle.std.specs.Prelude.{ℕ, Bool, false, cond, not, ◌||◌, List, [], ◌∷◌, ◌*◌, eqb, Float, take, Result}
 use Rattle.answer.specs.Given.{Given, answered, refused, refuse_if, and_then, bind}
 use Rattle.answer.specs.Answer.{given}
 use Rattle.answer.specs.declared.Refusal.{Refusal}
 use Rattle.arithmetic.specs.Arith.{Arith}
 use Rattle.coordinates.specs.declared.coords.Face.{Face}
 use Rattle.coordinates.specs.declared.lonlat.LonLat.{LonLat}
-use Rattle.origin.specs.Origins.{ORIGINS}
 use Rattle.set.specs.Set.{Set}
 use Rattle.set.specs.Sizes.{FACE_WIDTH, SPHERE_WIDTH}
 use Rattle.set.specs.Checks.{check_with}
@@ -23,11 +21,6 @@ use Rattle.region_work.specs.declared.region.Outline.{Outline}
 use Rattle.region_work.specs.declared.seen.Seen.{Seen}
 use Rattle.region_work.specs.declared.seen.Found.{Found}
 use Rattle.region_work.specs.Region.{check_positions, RegionCalled, region_called, region_left, region_given}
-
--- the table that is lent, or the built-in one
-abbrev pub table_of : Option (Bor (List Float)) → List Float
-table_of None = ORIGINS
-table_of (Some table) = table.now
 
 -- ---- the survey: every position on the set as it stands
 

@@ -7,7 +7,8 @@ ghost use Rattle.replay.specs.Outcome.{outcome_of};
 use answer::{Refusal, bits};
 use std::fmt;
 
-// 0 or the number of the refusal, and up to three answers: those that there are stand first.
+// 0 or the number of the refusal, and up to three answers: those that there are stand first. A refused call may have answers too, as
+// what is left of the results, points or block that it was lent, and they are compared as well: so this is no `Result`.
 #[derive(Clone, Copy, PartialEq, Eq)]
 pub struct Outcome {
     pub status: u8,

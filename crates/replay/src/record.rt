@@ -11,7 +11,8 @@ use crate::report;
 use std::io;
 use std::io::{Read, Write};
 
-// The function's number, 0 or the number of its refusal, and how many words are arguments and answers.
+// The four bytes that a record begins with, as they are stored: the function's number, 0 or the number of its refusal, and how many
+// words are arguments and answers.
 #[derive(Clone, Copy)]
 pub struct Head {
     pub number: u8,

@@ -15,7 +15,7 @@ use replay::record::Record;
 
 pub mod answers;
 
-// Two arguments, from a place on.
+// Two arguments, from a place on. The bound is for the sum of places alone: beyond its words a record answers 0.
 fn pair(record: &Record, place: usize) -> [f64; 2]
     requires { place < 260 }
 {

@@ -13,7 +13,6 @@ use answer::bits;
 use coordinates::coords::Face;
 use coordinates::lonlat::LonLat;
 use coordinates::spherical::Spherical;
-use dodecahedron::place::Place;
 use replay::outcome::{Outcome, answered, whole};
 use show::StoreKind;
 
@@ -30,16 +29,6 @@ pub enum Call {
     Step(Registers),
     Show(StoreKind, usize),
     Ask(StoreKind, usize),
-}
-
-// The origin, and both numbers of the face point.
-pub fn placed(place: Place) -> Outcome {
-    let point = place.face.0;
-    answered([
-        Some(u64::from(place.origin)),
-        Some(bits(point.x)),
-        Some(bits(point.y)),
-    ])
 }
 
 // How many coordinates a part has, and the first and the last of them.

@@ -6,7 +6,8 @@ ghost use Rattle.replay_call.specs.Made.{further as Made·further, corner as Mad
 use coordinates::base::Degrees;
 use coordinates::lonlat::LonLat;
 
-// How many positions near a first one, how far they lie apart, and how many results or points are lent with them.
+// How many positions near a first one, how far they lie apart, and how many results or points are lent with them: the numbers that
+// a call is drawn by, from which `positions` makes the list.
 #[derive(Clone, Copy)]
 pub struct Nearby {
     pub start: LonLat,

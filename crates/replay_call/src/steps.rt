@@ -6,7 +6,7 @@ use crate::mixed::mixed;
 use answer::Refusal;
 use replay::outcome::Outcome;
 
-// What a block holds before a step: the registers that a step reads, and one value for all the others.
+// What a block holds before a step: the registers that a step reads, as their bytes, and one value for all the others.
 #[derive(Clone, Copy)]
 pub struct Registers {
     pub command: u8,

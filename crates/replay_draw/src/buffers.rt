@@ -1,6 +1,11 @@
 // A set's buffers: that on which a list is run, and that which gathers what is due after it.
-use answer::bits;
+use answer::{Refusal, bits};
+use nearest::origins::Origins;
+use open_calls::open;
+use replay::outcome::Outcome;
+use replay_call::Call;
 use replay_numbers::unlike;
+use replay_perform::perform;
 use set::sizes::{FACE_STORE, FRAME, SPHERE_STORE};
 
 // The numbers of a frame and of both stores.
@@ -19,6 +24,22 @@ impl Set {
             face: [number; FACE_STORE],
             sphere: [number; SPHERE_STORE],
         }
+    }
+
+    // Opens it.
+    pub fn open<O: Origins>(&mut self, origins: O) -> Result<(), Refusal> {
+        open(origins, &mut self.frame, &mut self.face, &mut self.sphere)
+    }
+
+    // A call on it.
+    pub fn perform<O: Origins>(&mut self, origins: O, call: Call) -> Outcome {
+        perform(
+            origins,
+            &mut self.frame,
+            &mut self.face,
+            &mut self.sphere,
+            call,
+        )
     }
 
     // Takes over what one call has written into the stores of a set that was newly opened.

@@ -119,8 +119,8 @@ fn nearby(seed: &mut u64) -> Nearby {
             longitude: Degrees(number(seed, limit)),
             latitude: Degrees(number(seed, limit)),
         },
-        count: count,
-        room: room,
+        count,
+        room,
     }
 }
 

@@ -3,4 +3,5 @@
 
 pub mod buffers;
 pub mod draw;
-pub mod slots;
+pub mod due;
+mod slots;

@@ -1,5 +1,6 @@
 // Open on buffers of any length, and the rows of a buffer that it has written. None where a buffer has no such place.
 use answer::Refusal;
+use nearest::origins::BuiltIn;
 use open_calls::open;
 use replay::outcome::{Outcome, answered, done, three, told};
 use replay::record::Record;
@@ -30,6 +31,7 @@ fn opened(record: &Record) -> Option<(Result<(), Refusal>, [usize; 3])> {
     let mut face = [FOREIGN; FACE_ROOM];
     let mut sphere = [FOREIGN; SPHERE_ROOM];
     let given = open(
+        BuiltIn,
         frame.get_mut(..record.word(0) as usize)?,
         face.get_mut(..record.word(1) as usize)?,
         sphere.get_mut(..record.word(2) as usize)?,

@@ -9,6 +9,7 @@ mod buffers;
 mod tables;
 
 use crate::buffers::FOREIGN;
+use nearest::origins::BuiltIn;
 use nearest_calls::nearest;
 use open_calls::open;
 use replay::function::Function;
@@ -21,7 +22,7 @@ use std::io;
 // The refusal of a record that asks for a place that there is not. No call has it, so that the record is shown.
 const NO_SUCH_PLACE: u8 = 255;
 
-// The buffers of an opened set.
+// The buffers of an opened set, which the program alone owns: no twin of replay_draw's set, which is run on.
 #[derive(Drop)]
 struct Set {
     frame: [f64; FRAME],
@@ -39,7 +40,10 @@ fn outcome(set: &Set, record: &Record) -> Option<Outcome> {
         5 => buffers::row(&set.sphere, record),
         6 => buffers::outcome(record),
         7 => buffers::changes(record),
-        8 => Some(told(nearest(spherical(record, 0)), |id| whole(u64::from(id)))),
+        8 => Some(told(
+            nearest(BuiltIn, spherical(record, 0)),
+            |id| whole(u64::from(id)),
+        )),
         9 => Some(told(ask::haversine(record), one)),
         10 => Some(ask::turned(record)),
         11 => Some(ask::get_face_triangle_index(record)),
@@ -70,7 +74,7 @@ fn main(rt: HostRuntime) -> io::Result<()> {
         sphere: [FOREIGN; SPHERE_STORE],
     };
     // Where it is not opened, the rows differ.
-    let _given = open(&mut set.frame, &mut set.face, &mut set.sphere);
+    let _given = open(BuiltIn, &mut set.frame, &mut set.face, &mut set.sphere);
     replay_tally::run(&mut rt.stdin(), &mut rt.stdout(), &functions, |record| {
         outcome(&set, record).unwrap_or(refused(NO_SUCH_PLACE))
     })

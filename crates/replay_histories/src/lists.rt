@@ -1,36 +1,65 @@
-// Lists of calls on one set, beside a second one that gathers what the calls write on newly opened sets.
+// Lists of calls on one set, beside a second one that gathers what the calls write on newly opened sets. replay_table_histories runs
+// its lists alike; each call there brings a table or takes one, and is counted elsewhere.
 use crate::counts::count_outcome;
-use crate::due::expected;
-use open_calls::open;
+use nearest::origins::BuiltIn;
+use replay::function::Function;
 use replay_call::Call;
 use replay_draw::buffers::Set;
 use replay_draw::draw::draw;
-use replay_perform::perform;
+use replay_draw::due::expected;
 use replay_tally::Tally;
 
 // Where it is counted whether every number of the set is as it is due after a call.
 const SET: usize = 4;
 
-// One call on the set, compared: what it comes to, and every number of the set after it.
-fn turn(call: Call, set: &mut Set, due: &mut Set, tally: &mut Tally) {
-    let given = perform(None, &mut set.frame, &mut set.face, &mut set.sphere, call);
-    let expected = expected(call, due);
-    count_outcome(call, given, expected, tally);
-    tally.count(SET, set.is(due));
+// What the set holds before open: a number that is no mark, and that no call writes.
+const FOREIGN: f64 = 7.5;
+
+// The set that the calls are made on, the set as it must be, and what was counted.
+#[derive(Drop)]
+pub(crate) struct History<'a> {
+    pub set: Set,
+    due: Set,
+    pub tally: Tally<'a>,
 }
 
-// A list of so many calls, open once in so many of them, or never for 0.
-fn list(seed: &mut u64, calls: u32, opens: u64, set: &mut Set, due: &mut Set, tally: &mut Tally) {
-    for _ in 0..calls {
-        turn(draw(seed, opens), set, due, tally);
+impl<'a> History<'a> {
+    // Both sets as open leaves them, and nothing counted.
+    pub(crate) fn new(functions: &'a [Function]) -> History<'a> {
+        let mut set = Set::filled_with(FOREIGN);
+        let _ = set.open(BuiltIn);
+        let mut due = Set::filled_with(0.0);
+        let _ = due.open(BuiltIn);
+        History {
+            set,
+            due,
+            tally: Tally::new(functions),
+        }
     }
-}
 
-// A list with many opens, and then one with none, which fills every slot.
-pub(crate) fn run(set: &mut Set, tally: &mut Tally) {
-    let mut seed: u64 = 0x0123_4567_89ab_cdef;
-    let mut due = Set::filled_with(0.0);
-    let _ = open(&mut due.frame, &mut due.face, &mut due.sphere);
-    list(&mut seed, 4000, 50, set, &mut due, tally);
-    list(&mut seed, 16000, 0, set, &mut due, tally);
+    // One call on the set, compared: what it comes to, and every number of the set after it. Open always answers here, and clears
+    // the stores that are due.
+    fn turn(&mut self, call: Call) {
+        let given = self.set.perform(BuiltIn, call);
+        if let Call::Open = call {
+            self.due.clear_stores();
+        }
+        let expected = expected(BuiltIn, call, &mut self.due);
+        count_outcome(call, given, expected, &mut self.tally);
+        self.tally.count(SET, self.set.is(&self.due));
+    }
+
+    // A list of so many calls, open once in so many of them, or never for 0.
+    fn list(&mut self, seed: &mut u64, calls: u32, opens: u64) {
+        for _ in 0..calls {
+            self.turn(draw(seed, opens));
+        }
+    }
+
+    // A list with many opens, and then one with none, which fills every slot.
+    pub(crate) fn run(&mut self) {
+        let mut seed: u64 = 0x0123_4567_89ab_cdef;
+        self.list(&mut seed, 4000, 50);
+        self.list(&mut seed, 16000, 0);
+    }
 }

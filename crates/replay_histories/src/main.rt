@@ -7,37 +7,29 @@
 #![tactic(auto)]
 
 mod counts;
-mod due;
 mod lists;
 mod vertices;
 
-use open_calls::open;
+use crate::lists::History;
 use replay::function::Function;
 use replay::{record, report};
-use replay_draw::buffers::Set;
-use replay_tally::Tally;
 use std::io;
 use std::io::{Read, Write};
 
-// What the set holds before open: a number that is no mark, and that no call writes.
-const FOREIGN: f64 = 7.5;
-
-// Runs the lists, and then compares each record's vertex or b × c. Nothing says that the input ends, so no more than so many records
-// are read.
+// Runs the lists, and then compares each record's vertex or b × c, in the same counts. So it reads the records by itself, and not by
+// `replay_tally::run`, which begins with nothing counted. Nothing says that the input ends, so no more than so many are read.
 fn run<R: Read, W: Write>(from: &mut R, to: &mut W, functions: &[Function]) -> io::Result<()> {
-    let mut tally = Tally::new(functions);
-    let mut set = Set::filled_with(FOREIGN);
-    let _ = open(&mut set.frame, &mut set.face, &mut set.sphere);
-    lists::run(&mut set, &mut tally);
+    let mut history = History::new(functions);
+    history.run();
     for _ in 0..u32::MAX {
         let Some(record) = record::read(from, to, functions)? else {
-            return tally.report(to, u8::MAX);
+            return history.tally.report(to, u8::MAX);
         };
-        let given = vertices::of_record(&set, &record);
-        tally.compare(to, &record, given)?;
+        let given = vertices::of_record(&history.set, &record);
+        history.tally.compare(to, &record, given)?;
     }
     report::too_long(to)?;
-    tally.report(to, u8::MAX)
+    history.tally.report(to, u8::MAX)
 }
 
 // What is counted, in the order of its numbers. The first three have records, with so many arguments.

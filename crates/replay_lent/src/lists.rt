@@ -1,4 +1,4 @@
-// The results that are lent to `place_list` and `place_list_with`, and what such a call came to.
+// The results that are lent to `place_list`, and what such a call came to.
 use answer::Refusal;
 use place_list::PlaceResult;
 

@@ -1,4 +1,4 @@
-// The points that are lent to `region` and `region_with`, and what such a call came to.
+// The points that are lent to `region`, and what such a call came to.
 use answer::Refusal;
 use coordinates::coords::Face;
 use region_work::region::Region;

@@ -43,16 +43,6 @@ impl Lists {
         self.results.fill(BLANK);
     }
 
-    // A position's number, longitude and latitude.
-    pub fn put_position(&mut self, record: &Record) -> Option<()> {
-        let position = self.positions.get_mut(record.word(0) as usize)?;
-        *position = LonLat {
-            longitude: Degrees(record.argument(1)),
-            latitude: Degrees(record.argument(2)),
-        };
-        Some(())
-    }
-
     // All four fields of a result, also where it is refused.
     pub fn result(&self, record: &Record) -> Option<Outcome> {
         let result = self.results.get(record.word(0) as usize)?;

@@ -9,6 +9,7 @@ use crate::lists::Lists;
 use replay::function::Function;
 use replay::outcome::{Outcome, done};
 use replay::record::Record;
+use replay_positions::{NOTES, put_position};
 use replay_sets::noted::Set;
 use replay_sets::run::{Kinds, run};
 use std::io;
@@ -24,7 +25,7 @@ fn outcome(set: &mut Set, lists: &mut Lists, record: &Record) -> Option<Outcome>
     match record.head.number {
         0..=BUFFERS => ask::called(set, lists, record),
         RESULT => lists.result(record),
-        6 => lists.put_position(record).map(done),
+        6 => put_position(lists.positions.as_mut_slice(), record).map(done),
         7 => set.note(record).map(done),
         8 => set.fill_all(record).map(done),
         9 => set.put(record).map(done),
@@ -50,7 +51,7 @@ fn main(rt: HostRuntime) -> io::Result<()> {
         buffers: BUFFERS,
         last: RESULT,
     };
-    let mut set = Set::new(rt.alloc(), ask::NOTES)?;
+    let mut set = Set::new(rt.alloc(), NOTES)?;
     let mut lists = Lists::new(rt.alloc())?;
     run(
         &mut rt.stdin(),

@@ -7,7 +7,8 @@
 ghost use Rattle.std.specs.Prelude.{◌<◌};
 
 use answer::Refusal;
-use open_calls::{open, open_with};
+use nearest::origins::BuiltIn;
+use open_calls::open;
 use panel_step::step;
 use replay::function::Function;
 use replay::pattern::value;
@@ -20,7 +21,6 @@ use replay_tally::lines::Replayed;
 use set::sizes::{FACE_STORE, FRAME, SPHERE_STORE};
 use std::io;
 use std::io::Read;
-use table_panel::step_with;
 
 // A record's bytes: what is asked, the table's number, which buffers are lent without their last number, how many bytes of the
 // block are lent, the status that is due, the block, and the block as it should be afterwards.
@@ -29,6 +29,23 @@ const BLOCK_AT: usize = 5;
 const AFTER_AT: usize = BLOCK_AT + 34;
 
 const SIZE: usize = AFTER_AT + 34;
+
+// What a record asks, by its first byte: 0 is a step, 1 a step with a table, and every other that the set is opened with a table.
+enum Asked {
+    Step,
+    StepWith,
+    OpenWith,
+}
+
+impl From<u8> for Asked {
+    fn from(byte: u8) -> Self {
+        match byte {
+            0 => Asked::Step,
+            1 => Asked::StepWith,
+            _ => Asked::OpenWith,
+        }
+    }
+}
 
 // The next number of a table; 0.0 where the list has ended, and then no record follows.
 fn number<R: Read>(from: &mut R) -> io::Result<f64> {
@@ -65,33 +82,36 @@ fn open_set(set: &mut Set) {
         },
     ) = set.lend([FRAME as u64, FACE_STORE as u64, SPHERE_STORE as u64])
     {
-        let _given = open(frame, face, sphere);
+        let _given = open(BuiltIn, frame, face, sphere);
     }
 }
 
-// Does what is asked, on the bytes of the block that are lent: 0 is a step, 1 a step with a table, and 2 that the set is opened with
-// a table. A table that there is not is zeros, which every call refuses. None where the set is not there.
+// Does what is asked, on the bytes of the block that are lent. A table that there is not is zeros, which every call refuses. None
+// where the set is not there.
 fn ask(
     set: &mut Set,
-    asked: u8,
+    asked: Asked,
     table: u8,
     short: u8,
     block: &mut [u8],
 ) -> Option<Result<(), Refusal>> {
     let rows = tables::table(&set.notes, 0, u64::from(table));
-    let Lent {
-        frame,
-        face,
-        sphere,
-    } = set.lend([
+    let lengths = [
         lent(FRAME, short, 1),
         lent(FACE_STORE, short, 2),
         lent(SPHERE_STORE, short, 4),
-    ])?;
+    ];
     Some(match asked {
-        0 => step(frame, face, sphere, block),
-        1 => step_with(rows, frame, face, sphere, block),
-        _ => open_with(rows, frame, face, sphere),
+        Asked::Step => step(BuiltIn, &mut set.lend_set(lengths)?, block),
+        Asked::StepWith => step(rows, &mut set.lend_set(lengths)?, block),
+        Asked::OpenWith => {
+            let Lent {
+                frame,
+                face,
+                sphere,
+            } = set.lend(lengths)?;
+            open(rows, frame, face, sphere)
+        }
     })
 }
 
@@ -103,17 +123,23 @@ fn agrees(set: &mut Set, record: [u8; SIZE]) -> bool {
     if end > AFTER_AT {
         return false;
     }
-    let given = ask(set, asked, table, short, &mut record[BLOCK_AT..end]);
+    let given = ask(
+        set,
+        Asked::from(asked),
+        table,
+        short,
+        &mut record[BLOCK_AT..end],
+    );
     given.is_some_and(|outcome| answer::status(outcome) == due)
         && record[BLOCK_AT..AFTER_AT] == record[AFTER_AT..]
 }
 
 // The line of what was asked and its stored status: carried out, and then refused.
-fn line(asked: u8, due: u8) -> usize {
+fn line(asked: Asked, due: u8) -> usize {
     let carried_out = match asked {
-        0 => 1,
-        1 => 3,
-        _ => 5,
+        Asked::Step => 1,
+        Asked::StepWith => 3,
+        Asked::OpenWith => 5,
     };
     if due == 0 {
         carried_out
@@ -128,7 +154,7 @@ fn replay_next<R: Read>(from: &mut R, set: &mut Set) -> io::Result<Replayed> {
     Ok(match read_full(from, &mut record)? {
         0 => Replayed::Ended,
         SIZE => Replayed::Compared {
-            line: line(record[0], record[4]),
+            line: line(Asked::from(record[0]), record[4]),
             agrees: agrees(set, record),
         },
         _ => Replayed::CutOff,

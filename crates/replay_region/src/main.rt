@@ -9,6 +9,7 @@ use crate::outline::Outline;
 use replay::function::Function;
 use replay::outcome::{Outcome, done};
 use replay::record::Record;
+use replay_positions::{NOTES, put_position};
 use replay_sets::noted::Set;
 use replay_sets::run::{Kinds, run};
 use std::io;
@@ -25,7 +26,7 @@ fn outcome(set: &mut Set, outline: &mut Outline, record: &Record) -> Option<Outc
         0..=BUFFERS => ask::called(set, outline, record),
         5 => outline.point(record),
         BOX => outline.half(record),
-        7 => outline.put_position(record).map(done),
+        7 => put_position(outline.positions.as_mut_slice(), record).map(done),
         8 => set.note(record).map(done),
         9 => set.fill_all(record).map(done),
         10 => set.put(record).map(done),
@@ -52,7 +53,7 @@ fn main(rt: HostRuntime) -> io::Result<()> {
         buffers: BUFFERS,
         last: BOX,
     };
-    let mut set = Set::new(rt.alloc(), ask::NOTES)?;
+    let mut set = Set::new(rt.alloc(), NOTES)?;
     let mut outline = Outline::new(rt.alloc())?;
     run(
         &mut rt.stdin(),

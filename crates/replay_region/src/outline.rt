@@ -43,16 +43,6 @@ impl Outline {
         self.points.fill(BLANK);
     }
 
-    // A position's number, longitude and latitude.
-    pub fn put_position(&mut self, record: &Record) -> Option<()> {
-        let position = self.positions.get_mut(record.word(0) as usize)?;
-        *position = LonLat {
-            longitude: Degrees(record.argument(1)),
-            latitude: Degrees(record.argument(2)),
-        };
-        Some(())
-    }
-
     // A point, also one that was not written.
     pub fn point(&self, record: &Record) -> Option<Outcome> {
         let point = self.points.get(record.word(0) as usize)?;

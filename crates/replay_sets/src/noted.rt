@@ -19,7 +19,7 @@ pub struct Set {
     pub notes: Vec<f64>,
 }
 
-// What a call is lent of a set.
+// What open is lent of a set: it writes the frame too.
 #[derive(Drop)]
 pub struct Lent<'a> {
     pub frame: &'a mut [f64],
@@ -27,7 +27,7 @@ pub struct Lent<'a> {
     pub sphere: &'a mut [f64],
 }
 
-// The slots of a store: how many, of how many numbers, and where the first of them is noted.
+// The slots of a store: how many it has, of how many numbers, and where the first of them is noted. All three are fixed.
 #[derive(Clone, Copy)]
 struct Slots {
     count: usize,
@@ -77,6 +77,24 @@ impl Set {
             frame: frame.get_mut(..of_frame as usize)?,
             face: face.get_mut(..of_face as usize)?,
             sphere: sphere.get_mut(..of_sphere as usize)?,
+        })
+    }
+
+    // The same for every other call, which has the frame to be read.
+    pub fn lend_set(&mut self, lengths: [u64; 3]) -> Option<set::set::Set<'_>>
+        ensures frame { IfSome result (λ set. set.frame.now ≡ take (slice_index lengths 0) self.old.frame) }
+        ensures face { IfSome result (λ set. set.face_store.now ≡ take (slice_index lengths 1) self.old.face) }
+        ensures sphere { IfSome result (λ set. set.sphere_store.now ≡ take (slice_index lengths 2) self.old.sphere) }
+    {
+        let Lent {
+            frame,
+            face,
+            sphere,
+        } = self.lend(lengths)?;
+        Some(set::set::Set {
+            frame,
+            face_store: face,
+            sphere_store: sphere,
         })
     }
 

@@ -52,7 +52,8 @@ fn replay_next<R: Read>(from: &mut R) -> io::Result<Replayed> {
     })
 }
 
-// Nothing says that the input ends, so no more than so many records are read.
+// By itself, and not by `replay_tally::lines::run`, which begins its last line with a name, and counts the records that differ from 0:
+// here the first page is 1. Nothing says that the input ends, so no more than so many records are read.
 fn run<R: Read, W: Write>(from: &mut R, to: &mut W) -> io::Result<()> {
     let mut count = Count::NONE;
     for _ in 0..u32::MAX {

@@ -5,28 +5,22 @@
 #![tactic(auto)]
 
 ghost use Rattle.std.specs.Prelude.{◌≡◌, ◌≤◌, length};
+ghost use Rattle.set.specs.Lent.{SameBuffers};
 
 use replay::record::read_full;
+use set::set::Set;
 use set::sizes::{FACE_STORE, FRAME, SPHERE_STORE};
 use std::alloc::Global;
 use std::io;
 use std::io::{Read, Write};
 use strike_feed::feed;
-use strike_session::session::{Stage, begin, finish};
+use strike_session::session::{Fed, begin, finish};
 
 // The longest part of the list, and room for a session's lines.
 const ROOM: usize = 4096;
 
 // The pieces of the input's runs are of one byte and so many more.
 const MORE: [usize; 4] = [0, 2, 9, ROOM - 1];
-
-// A session: where it stands, how many bytes of its input were taken, and how many were written.
-#[derive(Clone, Copy)]
-struct Standing {
-    stage: Stage,
-    taken: usize,
-    written: usize,
-}
 
 // Says that the list is malformed.
 fn malformed<W: Write>(to: &mut W) -> io::Result<()> {
@@ -54,26 +48,18 @@ fn read_part<R: Read, W: Write>(
 }
 
 // Feeds what has arrived by now and was not taken.
-fn step(
-    at: Standing,
-    frame: &[f64],
-    face: &mut [f64],
-    sphere: &mut [f64],
-    arrived: &[u8],
-    lines: &mut [u8],
-) -> Standing
+fn step(at: Fed, set: &mut Set<'_>, arrived: &[u8], lines: &mut [u8]) -> Fed
     requires { (at.taken ≤ length arrived.now) × (at.written ≤ length lines.old) }
-    ensures { (result.taken ≤ length arrived.now) × (result.written ≤ length lines.new) }
+    ensures same { SameBuffers set.old set.new }
+    ensures within { (result.taken ≤ length arrived.now) × (result.written ≤ length lines.new) }
 {
     let fed = feed(
         at.stage,
-        frame,
-        face,
-        sphere,
+        set,
         &arrived[at.taken..],
         &mut lines[at.written..],
     );
-    Standing {
+    Fed {
         stage: fed.stage,
         taken: at.taken + fed.taken,
         written: at.written + fed.written,
@@ -81,7 +67,7 @@ fn step(
 }
 
 // The input's end. Returns how many bytes were written in all.
-fn end(at: Standing, arrived: usize, lines: &mut [u8]) -> usize
+fn end(at: Fed, arrived: usize, lines: &mut [u8]) -> usize
     requires { (at.taken ≤ arrived) × (at.written ≤ length lines.old) }
     ensures { result ≤ length lines.new }
 {
@@ -90,23 +76,16 @@ fn end(at: Standing, arrived: usize, lines: &mut [u8]) -> usize
 
 // The input in pieces of one byte and so many more, and its end. Returns how many bytes were written. A session is fed all that
 // has arrived and was not taken, so the loop goes over where the pieces end, and not over the pieces.
-fn answer(
-    at: Standing,
-    frame: &[f64],
-    face: &mut [f64],
-    sphere: &mut [f64],
-    input: &[u8],
-    more: usize,
-    lines: &mut [u8],
-) -> usize
+fn answer(at: Fed, set: &mut Set<'_>, input: &[u8], more: usize, lines: &mut [u8]) -> usize
     requires { (at.taken ≡ 0) × (at.written ≤ length lines.old) }
-    ensures { result ≤ length lines.new }
+    ensures same { SameBuffers set.old set.new }
+    ensures within { result ≤ length lines.new }
 {
     let mut standing = at;
     let mut arrived: usize = 0;
     while arrived < input.len() {
         arrived += more.min(input.len() - arrived - 1) + 1;
-        standing = step(standing, frame, face, sphere, &input[..arrived], lines);
+        standing = step(standing, set, &input[..arrived], lines);
     }
     end(standing, arrived, lines)
 }
@@ -118,12 +97,17 @@ fn run_session(input: &[u8], more: usize, lines: &mut [u8]) -> usize
     let mut face = [0.0; FACE_STORE];
     let mut sphere = [0.0; SPHERE_STORE];
     let begun = begin(&mut frame, &mut face, &mut sphere, lines);
-    let at = Standing {
+    let at = Fed {
         stage: begun.stage,
         taken: 0,
         written: begun.written,
     };
-    answer(at, &frame, &mut face, &mut sphere, input, more, lines)
+    let mut set = Set {
+        frame: &frame,
+        face_store: &mut face,
+        sphere_store: &mut sphere,
+    };
+    answer(at, &mut set, input, more, lines)
 }
 
 // Whether the lines of a run are the stored ones.

@@ -1,51 +1,47 @@
-// What a call must come to, with the table that it brings or takes, and what the stores must hold after it: from sets newly
-// opened with that table, and from the stores that gather what was written there. Show and its companion are not asked for this.
-use open_calls::open_with;
+// What a call must come to, with the table that it brings or takes, and what the set must hold after it.
+use nearest::origins::BuiltIn;
+use origin::origin::built_in;
 use replay::outcome::{Outcome, done, told};
 use replay_call::Call;
 use replay_draw::buffers::Set;
-use replay_draw::slots::{part, state};
-use replay_perform::perform;
+use replay_draw::due::expected;
 
-// What a call comes to on a set newly opened with a table; what it writes there goes to the set that is due.
-fn on_new_set(table: &[f64; 84], call: Call, due: &mut Set) -> Outcome {
-    let mut new = Set::filled_with(0.0);
-    let _ = open_with(*table, &mut new.frame, &mut new.face, &mut new.sphere);
-    let outcome = perform(
-        Some(table),
-        &mut new.frame,
-        &mut new.face,
-        &mut new.sphere,
-        call,
-    );
-    due.gather(&new);
-    outcome
+// The table of the last open that answered, which every other call takes, and the set as it must be.
+#[derive(Drop)]
+pub(crate) struct Due {
+    pub taken: [f64; 84],
+    pub set: Set,
 }
 
-// An open that brings a table: where it answers, that table is taken from then on, and the frame is the one that it writes.
-// A refused one leaves all of it.
-fn opened(table: &[f64; 84], taken: &mut [f64; 84], due: &mut Set) -> Outcome {
-    let mut new = Set::filled_with(0.0);
-    let opened = open_with(*table, &mut new.frame, &mut new.face, &mut new.sphere);
-    if opened.is_ok() {
-        *taken = *table;
-        due.frame = new.frame;
-        due.clear_stores();
+impl Due {
+    // As open with the built-in table leaves a set.
+    pub(crate) fn new() -> Due {
+        let mut set = Set::filled_with(0.0);
+        let _ = set.open(BuiltIn);
+        Due {
+            taken: built_in(),
+            set,
+        }
     }
-    told(opened, done)
-}
 
-// What a call must come to, with the table that it brings or takes; the set that is due is then as it must be after it.
-pub(crate) fn expected(
-    table: &[f64; 84],
-    call: Call,
-    taken: &mut [f64; 84],
-    due: &mut Set,
-) -> Outcome {
-    match call {
-        Call::Open => opened(table, taken, due),
-        Call::Show(kind, slot) => part(due, kind, slot),
-        Call::Ask(kind, slot) => state(due, kind, slot),
-        _ => on_new_set(table, call, due),
+    // An open that brings a table: where it answers, that table is taken from then on, and the frame is the one that it writes.
+    // A refused one leaves all of it.
+    fn opened(&mut self, table: &[f64; 84]) -> Outcome {
+        let mut new = Set::filled_with(0.0);
+        let opened = new.open(*table);
+        if opened.is_ok() {
+            self.taken = *table;
+            self.set.frame = new.frame;
+            self.set.clear_stores();
+        }
+        told(opened, done)
+    }
+
+    // What a call must come to, with the table that it brings or takes; all that is due is then as it must be after it.
+    pub(crate) fn expected(&mut self, table: &[f64; 84], call: Call) -> Outcome {
+        match call {
+            Call::Open => self.opened(table),
+            _ => expected(*table, call, &mut self.set),
+        }
     }
 }

@@ -10,14 +10,9 @@ mod due;
 mod lists;
 mod tables;
 
-use open_calls::open;
+use crate::lists::History;
 use replay::function::Function;
-use replay_draw::buffers::Set;
-use replay_tally::Tally;
 use std::io;
-
-// What the set holds before open: a number that is no mark, and that no call writes.
-const FOREIGN: f64 = 7.5;
 
 // What is counted, in the order of its numbers. None has records.
 fn main(rt: HostRuntime) -> io::Result<()> {
@@ -36,9 +31,7 @@ fn main(rt: HostRuntime) -> io::Result<()> {
         Function::new("companion", 0),
         Function::new("companion_refused", 0),
     ];
-    let mut tally = Tally::new(&functions);
-    let mut set = Set::filled_with(FOREIGN);
-    let _ = open(&mut set.frame, &mut set.face, &mut set.sphere);
-    lists::run(&mut set, &mut tally);
-    tally.report(&mut rt.stdout(), u8::MAX)
+    let mut history = History::new(&functions);
+    history.run();
+    history.tally.report(&mut rt.stdout(), u8::MAX)
 }

@@ -35,27 +35,16 @@ fn unit(q: Quat) -> Quat {
 // The built-in table, turned: the quaternions, and the axes, which are where they take the pole. The angles stay.
 fn turned(turn: Quat) -> [f64; 84] {
     let mut table = built_in();
-    for row in 0..12 {
-        let at = 7 * row;
-        let own = Quat {
-            x: table[at + 2],
-            y: table[at + 3],
-            z: table[at + 4],
-            w: table[at + 5],
-        };
-        let q = unit(product(turn, own));
+    for row in table.as_chunks_mut::<7>().0 {
+        let [_, _, x, y, z, w, angle] = *row;
+        let q = unit(product(turn, Quat { x, y, z, w }));
         let pole = Cartesian(Vec3 {
             x: 0.0,
             y: 0.0,
             z: 1.0,
         });
         let axis = to_spherical(transform_quat(pole, q));
-        table[at] = axis.theta.0;
-        table[at + 1] = axis.phi.0;
-        table[at + 2] = q.x;
-        table[at + 3] = q.y;
-        table[at + 4] = q.z;
-        table[at + 5] = q.w;
+        *row = [axis.theta.0, axis.phi.0, q.x, q.y, q.z, q.w, angle];
     }
     table
 }
@@ -70,22 +59,19 @@ fn turned_anyhow(seed: &mut u64) -> [f64; 84] {
     })
 }
 
-// Where a row begins, whatever the number.
+// A row, whatever the number.
 fn row(r: u64) -> usize
-    ensures { result < 78 }
+    ensures { result < 12 }
 {
-    7 * ((r % 12) as usize)
+    (r % 12) as usize
 }
 
 // Two rows exchanged: the same solid, its origins in another order.
 fn exchanged(table: [f64; 84], first: usize, second: usize) -> [f64; 84]
-    requires { (first < 78) × (second < 78) }
+    requires { (first < 12) × (second < 12) }
 {
     let mut exchanged = table;
-    for i in 0..7 {
-        exchanged[first + i] = table[second + i];
-        exchanged[second + i] = table[first + i];
-    }
+    exchanged.as_chunks_mut::<7>().0.swap(first, second);
     exchanged
 }
 
@@ -104,7 +90,9 @@ fn with(table: [f64; 84], at: usize, number: f64) -> [f64; 84] {
 pub(crate) fn draw(seed: &mut u64) -> [f64; 84] {
     let kind = next(seed) % 16;
     let table = turned_anyhow(seed);
-    let at = row(next(seed));
+    let first = row(next(seed));
+    let at = 7 * first;
+    // each number that is drawn stands for one sort of table
     match kind {
         0 => built_in(),
         1 => with(built_in(), at + 1, 0.25),
@@ -113,7 +101,7 @@ pub(crate) fn draw(seed: &mut u64) -> [f64; 84] {
         4 => with(table, at + 2, value(next(seed))),
         5 => with(table, at, 8.5),
         6 => with(table, at + 5, 0.25),
-        7 => exchanged(table, at, row(next(seed))),
+        7 => exchanged(table, first, row(next(seed))),
         _ => table,
     }
 }

@@ -41,15 +41,13 @@ fn saves(table: [f64; 84], file: &[u8]) -> bool {
 // Loads a file, and says whether the status and the table are then the stored ones.
 fn agrees(file: &[u8], status: u8, stored: &[u8; 672]) -> bool {
     let mut table = [BEFORE; 84];
-    let given = answer::status(table_file::load(file, &mut table));
-    given == status
-        && match status {
-            0 => has_bits(&table, stored) && saves(table, file),
-            _ => is_untouched(&table),
-        }
+    match table_file::load(file, &mut table) {
+        Ok(()) => status == 0 && has_bits(&table, stored) && saves(table, file),
+        Err(refusal) => refusal.number() == status && is_untouched(&table),
+    }
 }
 
-// The line of a stored status: loaded, refused with 20, 21, 22.
+// The line of a status, by its number as the list stores it: loaded, refused with 20, 21, 22.
 fn line(status: u8) -> usize {
     match status {
         0 => 1,

@@ -43,7 +43,7 @@ fn agrees(record: &[u8; SIZE]) -> bool {
     given == record[2] && grants == after
 }
 
-// The line of a stored status.
+// The line of a status, by its number as the list stores it: answered, refused with 24, 25.
 fn line(status: u8) -> usize {
     match status {
         0 => 1,

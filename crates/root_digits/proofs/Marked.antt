@@ -1,5 +1,5 @@
 -- The digits 010 at the end of t, in units of r, changed to 001: t - r by two digits. Assumes nothing.
-use Rattle.std.proofs.Common.{◌≡◌, ℕ, ◌+◌, ◌-◌, ◌*◌, ◌^◌, ◌≤◌, sym, ap, ◌∙◌, ap₂, add-zero, arith, pow_pos}
+use Rattle.std.proofs.Common.{◌≡◌, ℕ, ◌+◌, ◌-◌, ◌*◌, ◌^◌, sym, ap, ◌∙◌, ap₂, add-zero, arith, pow_pos}
 use lib.Bits.{bit_xor, xor_block, xor_zero_r}
 use Rattle.root_digits.specs.Digits.{Marked}
 
@@ -25,7 +25,3 @@ changed t r m =
     ∙ ap (λ (x : ℕ). x * 2 ^ i) (last_digits a)
     ∙ ap (λ (x : ℕ). (8 * a + 1) * x) (sym m.r_is)
     ∙ difference
-
--- r is at most half of t
-pub half_most : (t r : ℕ) → Marked t r → 2 * r ≤ t
-half_most t r m = omega (arith, m.t_is)

@@ -16,21 +16,6 @@ use Rattle.root_digits.specs.Digits.{Marked, Found}
 
 -- ---- before the first round
 
-pub none_found : (m : ℕ) → 2 ^ 52 ≤ m → m < 2 ^ 54 → Found (m * 2 ^ 52) (2 ^ 53) (2 * m) (2 ^ 52) 0
-none_found m lo hi = record {
-  q = 0;
-  w = 2 ^ 53;
-  few = omega arith;
-  weight = refl;
-  c = 0;
-  c_is = refl;
-  t_is = refl;
-  y_is = omega arith;
-  r_is = refl;
-  above = omega arith;
-  last = λ z. absurd (omega arith);
-}
-
 -- ---- one round, z being what y keeps
 
 one_square : (n q z r : ℕ) → 4 * (q * q) + (z + (4 * q + 2 * r)) * (2 * r) ≡ 4 * n → 4 * ((q + r) * (q + r)) + 2 * z * r ≡ 4 * n
@@ -98,12 +83,6 @@ module _ (n t y r k : ℕ) (f : Found n t y r k) where
 
   pub y_lt : n < 2 ^ 106 → y < 2 ^ 57
   y_lt small = omega (arith, root_lt small, w_most, left_lt)
-
-  pub r_most : r ≤ 2 ^ 52
-  r_most = omega (arith, w_most, f.r_is)
-
-  pub twice_r_le : 2 * r ≤ t
-  twice_r_le = omega (arith, f.r_is, f.t_is)
 
   -- ---- one round
 

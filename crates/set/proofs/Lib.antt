@@ -1,4 +1,4 @@
 -- Laws behind the proofs of the functions.
 pub mod Lengths
-pub mod Overwrite
+pub mod Front
 pub mod Opening

@@ -2,5 +2,6 @@
 pub mod Sizes
 pub mod Set
 pub mod Outcome
+pub mod Lent
 pub mod Open
 pub mod Checks

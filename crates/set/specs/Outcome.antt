@@ -13,10 +13,6 @@ pub record Outcome (X : Type 0) : Type 0 where
 
 -- ---- the set in a contract
 
--- what three references hold
-abbrev pub held : Bor (List Float) → Bor (List Float) → Bor (List Float) → Set
-held frame faces spheres = set_of frame.now faces.now spheres.now
-
 -- a parameter that is a buffer, lent to be read or to be written: as it is lent, and as it is handed back
 abbrev pub SharedBuffer : Type 0
 SharedBuffer = Both (Bor (List Float)) (Bor (List Float))
@@ -30,14 +26,6 @@ lent frame faces spheres =
     record {
       entry = set_of frame.entry.now faces.entry.now spheres.entry.now;
       exit = set_of frame.exit.now faces.exit.now spheres.exit.now;
-    }
-
--- the same where all three are read
-abbrev pub lent_shared : SharedBuffer → SharedBuffer → SharedBuffer → Both Set Set
-lent_shared frame faces spheres =
-    record {
-      entry = held frame.entry faces.entry spheres.entry;
-      exit = held frame.exit faces.exit spheres.exit;
     }
 
 -- the same where all three are written, as open does

@@ -3,11 +3,11 @@ ghost use Rattle.std.specs.Prelude.{◌≡◌};
 ghost use Rattle.answer.specs.Answer.{given};
 ghost use Rattle.arithmetic.specs.Arith.{ieee};
 ghost use Rattle.set.specs.Checks.{check_origin, check_call, check_with};
-ghost use Rattle.set.specs.Outcome.{lent_shared};
+ghost use Rattle.set.specs.Lent.{seen};
 
-use crate::set::check_set;
+use crate::set::SetRef;
 use answer::Refusal;
-use origin::table::check_rows;
+use nearest::origins::Origins;
 
 // 4.
 pub fn check_origin(origin: u8) -> Result<(), Refusal>
@@ -20,27 +20,17 @@ pub fn check_origin(origin: u8) -> Result<(), Refusal>
 }
 
 // 1, 2, 3, 4.
-pub fn check_call(
-    frame: &[f64],
-    face_store: &[f64],
-    sphere_store: &[f64],
-    origin: u8,
-) -> Result<(), Refusal>
-    ensures { given result ≡ check_call (lent_shared frame face_store sphere_store).entry origin }
+pub fn check_call(set: SetRef<'_>, origin: u8) -> Result<(), Refusal>
+    ensures { given result ≡ check_call (seen set.entry) origin }
 {
-    check_set(frame, face_store, sphere_store)?;
+    set.check()?;
     check_origin(origin)
 }
 
-// 1, 2, 3, 21, 22.
-pub fn check_with(
-    table: &[f64; 84],
-    frame: &[f64],
-    face_store: &[f64],
-    sphere_store: &[f64],
-) -> Result<(), Refusal>
-    ensures { given result ≡ check_with ieee table.now (lent_shared frame face_store sphere_store).entry }
+// 1, 2, 3, and 21, 22 of a table that is handed over.
+pub fn check_with<O: Origins>(origins: &O, set: SetRef<'_>) -> Result<(), Refusal>
+    ensures { given result ≡ check_with ieee (O.table origins.now) (seen set.entry) }
 {
-    check_set(frame, face_store, sphere_store)?;
-    check_rows(table)
+    set.check()?;
+    origins.check()
 }

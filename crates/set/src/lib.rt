@@ -3,5 +3,6 @@
 #![tactic(auto)]
 
 pub mod checks;
+pub mod on_origin;
 pub mod set;
 pub mod sizes;

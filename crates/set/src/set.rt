@@ -2,23 +2,54 @@
 ghost use Rattle.std.specs.Prelude.{◌≡◌};
 ghost use Rattle.answer.specs.Answer.{given};
 ghost use Rattle.set.specs.Set.{check_set};
-ghost use Rattle.set.specs.Outcome.{lent_shared};
+ghost use Rattle.set.specs.Lent.{seen, held};
 
 use crate::sizes::{FACE_STORE, FRAME, SPHERE_STORE};
 use answer::Refusal;
 
-// 1, 2, 3: the lengths of the three buffers.
-pub fn check_set(frame: &[f64], face_store: &[f64], sphere_store: &[f64]) -> Result<(), Refusal>
-    ensures { given result ≡ check_set (lent_shared frame face_store sphere_store).entry }
-{
-    if frame.len() != FRAME {
-        return Err(Refusal::FrameLength);
+// A set that is lent to be read.
+#[derive(Clone, Copy)]
+pub struct SetRef<'a> {
+    pub frame: &'a [f64],
+    pub face_store: &'a [f64],
+    pub sphere_store: &'a [f64],
+}
+
+// A set that is lent to a call: the frame to be read, and the stores to be written.
+#[derive(Drop)]
+pub struct Set<'a> {
+    pub frame: &'a [f64],
+    pub face_store: &'a mut [f64],
+    pub sphere_store: &'a mut [f64],
+}
+
+impl SetRef<'_> {
+    // 1, 2, 3: the lengths of the three buffers.
+    pub fn check(self) -> Result<(), Refusal>
+        ensures { given result ≡ check_set (seen self.entry) }
+    {
+        if self.frame.len() != FRAME {
+            return Err(Refusal::FrameLength);
+        }
+        if self.face_store.len() != FACE_STORE {
+            return Err(Refusal::FaceStoreLength);
+        }
+        if self.sphere_store.len() != SPHERE_STORE {
+            return Err(Refusal::SphereStoreLength);
+        }
+        Ok(())
     }
-    if face_store.len() != FACE_STORE {
-        return Err(Refusal::FaceStoreLength);
+}
+
+impl Set<'_> {
+    // The set as it stands, to be read.
+    pub fn view(&self) -> SetRef<'_>
+        ensures { seen result ≡ held self.now }
+    {
+        SetRef {
+            frame: self.frame,
+            face_store: self.face_store,
+            sphere_store: self.sphere_store,
+        }
     }
-    if sphere_store.len() != SPHERE_STORE {
-        return Err(Refusal::SphereStoreLength);
-    }
-    Ok(())
 }

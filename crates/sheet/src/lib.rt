@@ -16,7 +16,7 @@ pub const PAGE: usize = 4860;
 
 const LINE: usize = 81;
 
-// Every line of the page in turn.
+// Every line of the page in turn, each at its place: what is written through `chunks_exact_mut`, no proof knows.
 fn write_page(page: &mut [u8], counts: &[u32; 12])
     requires { length page.old ≡ 4860 }
     ensures { page.new ≡ page_of counts.now }

@@ -4,7 +4,7 @@
 ghost use Rattle.std.specs.Prelude.{◌≡◌, ◌+◌, ◌<◌, ◌≤◌, length};
 ghost use Rattle.answer.specs.Answer.{given};
 ghost use Rattle.stores.specs.Slots.{filled};
-ghost use Rattle.show.specs.Show.{slot_given, PartOf, Shows};
+ghost use Rattle.show.specs.Show.{named, slots_in, width_in, coordinates_in, slot_given, PartOf, Shows};
 
 use answer::Refusal;
 use set::sizes::{
@@ -19,6 +19,49 @@ pub enum StoreKind {
     Sphere,
 }
 
+impl StoreKind {
+    // How many slots the store has.
+    pub fn slots(self) -> usize
+        ensures { result ≡ slots_in self }
+    {
+        match self {
+            StoreKind::Face => FACE_SLOTS,
+            StoreKind::Sphere => SPHERE_SLOTS,
+        }
+    }
+
+    // How many numbers one of its slots takes, the mark among them.
+    pub fn width(self) -> usize
+        ensures { result ≡ width_in self }
+    {
+        match self {
+            StoreKind::Face => FACE_WIDTH,
+            StoreKind::Sphere => SPHERE_WIDTH,
+        }
+    }
+
+    // How many coordinates are shown of one of its slots.
+    pub fn coordinates(self) -> usize
+        ensures { result ≡ coordinates_in self }
+    {
+        match self {
+            StoreKind::Face => FACE_COORDINATES,
+            StoreKind::Sphere => SPHERE_COORDINATES,
+        }
+    }
+
+    // The store itself, of the two.
+    fn store<'a>(self, face_store: &'a [f64], sphere_store: &'a [f64]) -> &'a [f64]
+        ensures numbers { result.now ≡ named self face_store.entry.now sphere_store.entry.now }
+        ensures place { result.ref_ptr ≡ named self face_store.entry.ref_ptr sphere_store.entry.ref_ptr }
+    {
+        match self {
+            StoreKind::Face => face_store,
+            StoreKind::Sphere => sphere_store,
+        }
+    }
+}
+
 // Whether the slot that starts at a place is filled, by its mark.
 fn state_at(store: &[f64], at: usize) -> bool
     requires { at < length store.now }
@@ -27,7 +70,8 @@ fn state_at(store: &[f64], at: usize) -> bool
     store[at] == 1.0
 }
 
-// The companion: 2, 3, 10, and otherwise whether the slot is filled.
+// The companion: 2, 3, 10, and otherwise whether the slot is filled. Stores, kind and slot are four arguments here and in show, as
+// document 01 has them.
 #[tactic(auto, unfolding(crate::specs::Show::slot_given))]
 pub fn slot_state(
     face_store: &[f64],
@@ -43,20 +87,11 @@ pub fn slot_state(
     if sphere_store.len() != SPHERE_STORE {
         return Err(Refusal::SphereStoreLength);
     }
-    match kind {
-        StoreKind::Face => {
-            if slot >= FACE_SLOTS {
-                return Err(Refusal::UnknownSlot);
-            }
-            Ok(state_at(face_store, slot * FACE_WIDTH))
-        }
-        StoreKind::Sphere => {
-            if slot >= SPHERE_SLOTS {
-                return Err(Refusal::UnknownSlot);
-            }
-            Ok(state_at(sphere_store, slot * SPHERE_WIDTH))
-        }
+    if slot >= kind.slots() {
+        return Err(Refusal::UnknownSlot);
     }
+    let store = kind.store(face_store, sphere_store);
+    Ok(state_at(store, slot * kind.width()))
 }
 
 // The coordinates of the slot that starts at a place: so many, behind its mark.
@@ -77,12 +112,10 @@ pub fn show<'a>(
 ) -> &'a [f64]
     ensures { Shows face_store.entry sphere_store.entry kind slot result }
 {
-    match slot_state(face_store, sphere_store, kind, slot) {
-        Ok(true) => match kind {
-            StoreKind::Face => coordinates(face_store, slot * FACE_WIDTH, FACE_COORDINATES),
-            StoreKind::Sphere => coordinates(sphere_store, slot * SPHERE_WIDTH, SPHERE_COORDINATES),
-        },
-        Ok(false) => &face_store[0..0],
-        Err(_) => &face_store[0..0],
+    if slot_state(face_store, sphere_store, kind, slot).unwrap_or(false) {
+        let store = kind.store(face_store, sphere_store);
+        coordinates(store, slot * kind.width(), kind.coordinates())
+    } else {
+        &face_store[0..0]
     }
 }

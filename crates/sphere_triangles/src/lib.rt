@@ -2,18 +2,17 @@
 // triangle that is built for it.
 #![tactic(auto)]
 
-ghost use Rattle.std.specs.Prelude.{◌≡◌, false, ◌<◌, length};
+ghost use Rattle.std.specs.Prelude.{◌≡◌, ◌<◌, length};
 ghost use Rattle.answer.specs.Answer.{given};
 ghost use Rattle.arithmetic.specs.Arith.{ieee};
-ghost use Rattle.elementary.specs.Sine.{beyond};
-ghost use Rattle.coordinates.specs.Constants.{8·0};
-ghost use Rattle.set.specs.Outcome.{lent_shared};
+ghost use Rattle.set.specs.Lent.{seen};
 ghost use Rattle.set.specs.Sizes.{FACE_SLOTS, FACE_STORE, SPHERE_SLOTS, SPHERE_STORE};
 ghost use Rattle.triangles.specs.Triangles.{sphere_built, sphere_taken, cross_taken};
 
 use answer::Refusal;
 use coordinates::coords::{Cartesian, FaceTriangle, SphericalTriangle};
-use origin::utils::Origin;
+use set::on_origin::SoundOrigin;
+use set::set::SetRef;
 use set::sizes::{SPHERE_CROSS, SPHERE_WIDTH};
 use stores::slots::is_filled;
 use triangles::triangles::{corner_vertex, read_sphere, read_vector, take_face};
@@ -22,11 +21,10 @@ use vector::cross;
 // compute_spherical_triangle: the three corners looked up; 8 where one has no row.
 fn build_sphere(
     frame: &[f64],
-    origin: Origin,
+    origin: SoundOrigin,
     t: FaceTriangle,
 ) -> Result<SphericalTriangle, Refusal>
-    requires { beyond 8·0 origin.angle.0 ≡ false }
-    ensures { given result ≡ sphere_built ieee frame.now origin t }
+    ensures { given result ≡ sphere_built ieee frame.now origin.origin t }
 {
     let a = corner_vertex(frame, origin, t.a)?;
     let b = corner_vertex(frame, origin, t.b)?;
@@ -36,23 +34,20 @@ fn build_sphere(
 
 // The sphere triangle of a slot, built on the face triangle of the slot source where it is empty.
 pub fn take_sphere(
-    frame: &[f64],
-    face_store: &[f64],
-    sphere_store: &[f64],
-    origin: Origin,
+    set: SetRef<'_>,
+    origin: SoundOrigin,
     slot: usize,
     source: usize,
 ) -> Result<SphericalTriangle, Refusal>
-    requires slot_bound { (slot < SPHERE_SLOTS) × (length sphere_store.now ≡ SPHERE_STORE) }
-    requires source_bound { (source < FACE_SLOTS) × (length face_store.now ≡ FACE_STORE) }
-    requires angle_value { beyond 8·0 origin.angle.0 ≡ false }
-    ensures { given result ≡ sphere_taken ieee (lent_shared frame face_store sphere_store).entry origin slot source }
+    requires slot_bound { (slot < SPHERE_SLOTS) × (length set.sphere_store.now ≡ SPHERE_STORE) }
+    requires source_bound { (source < FACE_SLOTS) × (length set.face_store.now ≡ FACE_STORE) }
+    ensures { given result ≡ sphere_taken ieee (seen set.entry) origin.origin slot source }
 {
     let at = slot * SPHERE_WIDTH;
-    if is_filled(sphere_store, at) {
-        Ok(read_sphere(&sphere_store[at + 1..at + SPHERE_CROSS]))
+    if is_filled(set.sphere_store, at) {
+        Ok(read_sphere(&set.sphere_store[at + 1..at + SPHERE_CROSS]))
     } else {
-        build_sphere(frame, origin, take_face(face_store, source))
+        build_sphere(set.frame, origin, take_face(set.face_store, source))
     }
 }
 

@@ -41,7 +41,7 @@ pub fn spherical_triangle_area(v1: Cartesian, v2: Cartesian, v3: Cartesian) -> R
     Radians(2.0 * half_area(triple_product(v1, v2, v3), norm))
 }
 
-// An area, and the square root that is found beside it.
+// An area, and the square root that is found beside it, by name: no angle and distance, though as many numbers.
 #[derive(Clone, Copy)]
 pub struct AreaAndRoot {
     pub area: Radians,

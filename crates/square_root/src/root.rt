@@ -26,13 +26,15 @@ fn pattern(x: f64) -> u64
     b
 }
 
-// The value m * 2^h of the smallest ones, 2^-1074, as a * 2^g in units of 2^-1126, where a has the full width of 53 digits.
+// The value m * 2^h of the smallest ones, 2^-1074, as a * 2^g in units of 2^-1126, where a has the full width of 53 digits. A type
+// of its own, as Number is: each counts in other units.
 #[derive(Clone, Copy)]
 struct Wide {
     a: u64,
     g: u64,
 }
 
+// No method of std brings a number to full width and says by how much.
 fn widened(m: u64, h: u64) -> Wide
     requires { (0 < m) × (m < 2 ^ 53) × (h ≤ 2045) }
     ensures { (2 ^ 52 ≤ result.a) × (result.a < 2 ^ 53) × (result.g ≤ 2097) × (result.a * 2 ^ result.g ≡ m * 2 ^ h * 2 ^ 52) }
@@ -116,7 +118,7 @@ pub fn sqrt(x: f64) -> f64
 }
 
 // The rounds that the root's digits take: of a finite x above zero the least count of digits that are the exact root, or 53
-// where there is none; 0 of anything else.
+// where there is none; 0 of anything else. A call of its own beside sqrt: a caller wants one number of the two.
 pub fn sqrt_rounds(x: f64) -> u32
     ensures { result ≡ sqrt_rounds x }
 {

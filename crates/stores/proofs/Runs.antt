@@ -15,12 +15,6 @@ pub gap : (at e s : ℕ) → at + e - (at + s) ≡ e - s
 gap at e s = omega arith
 
 module _ {A : Type 0} where
-  -- a store at each place of a list in turn
-  pub sets_whole : (vs l : List A) → length l ≡ length vs → sets l 0 vs ≡ vs
-  sets_whole vs l e =
-      let nothing_left = drop_of_length-le l {i = 0 + length vs} (omega arith) in
-      sets-eq vs l 0 (omega arith) ∙ ap (λ (r : List A). vs ++ r) nothing_left ∙ append-nil vs
-
   -- a store just before a run joins it
   put_set : (xs : List A) (at : ℕ) (v : A) (ys : List A) → at < length xs → put (set xs at v) (suc at) ys ≡ put xs at (v ∷ ys)
   unfolding put

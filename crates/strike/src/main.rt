@@ -6,10 +6,12 @@ ghost use Rattle.std.specs.Prelude.{◌≡◌, ◌≤◌, false, length};
 ghost use Rattle.std.specs.Io.KnownBytes.{Appends};
 ghost use Rattle.arithmetic.specs.Arith.{ieee};
 ghost use Rattle.origin.specs.Origins.{ORIGINS};
-ghost use Rattle.set.specs.Outcome.{lent, lent_mut};
+ghost use Rattle.set.specs.Outcome.{lent_mut};
+ghost use Rattle.set.specs.Lent.{SameBuffers, held};
 ghost use Rattle.strike_reads.specs.Steps.{Begins, Roomy, state_of, begun, Ended, Passes, bytes_of, lines_of};
 ghost use Rattle.strike_session.specs.Session.{program};
 
+use set::set::Set;
 use set::sizes::{FACE_STORE, FRAME, SPHERE_STORE};
 use std::io::{Read, Write};
 use strike_input::read_all;
@@ -26,36 +28,26 @@ struct Last {
     lost: bool,
 }
 
-// All reads, and behind them the last line, if there is one.
+// All reads, and behind them the last line, if there is one. The buffers are lent one by one, as a step takes them (see there).
 fn answer_all<R: Read, W: Write>(
     from: &mut R,
     to: &mut W,
     stage: Stage,
-    frame: &[f64],
-    face_store: &mut [f64],
-    sphere_store: &mut [f64],
+    set: &mut Set<'_>,
     buffer: &mut [u8],
     out: &mut [u8],
 ) -> Last
     requires { Begins stage × Roomy buffer.old out.old }
+    ensures same { SameBuffers set.old set.new }
     ensures ends { (e : Ended (length buffer.old) (length out.old)
-        (state_of stage 0 (lent frame face_store sphere_store).entry buffer.old)
-        (state_of result.stage result.kept (lent frame face_store sphere_store).exit buffer.new)
+        (state_of stage 0 (held set.old) buffer.old)
+        (state_of result.stage result.kept (held set.new) buffer.new)
         result.written out.new)
         × Passes (R.remaining from.old) (R.remaining from.new) (W.contents to.old) (W.contents to.new)
         (bytes_of e.read) (lines_of e.read) result.lost }
     ensures held { result.written ≤ length out.new }
 {
-    let at = read_all(
-        from,
-        to,
-        stage,
-        frame,
-        face_store,
-        sphere_store,
-        buffer,
-        out,
-    );
+    let at = read_all(from, to, stage, set, buffer, out);
     let last = at.stage;
     let written = finish(last, at.kept, out);
     Last {
@@ -76,7 +68,8 @@ fn ends_lost<W: Write>(to: &mut W, lost: bool, line: &[u8]) -> bool
 
 // A whole session on any set. However its bytes arrive, its lines are those of a session with all of them in a row, if none are
 // lost. Where open refuses there is one line, and the session is over: so it does not matter whether that line is written. After
-// a write that failed nothing more is written.
+// a write that failed nothing more is written. The set's buffers are lent one by one, as open takes them, and are one set
+// from then on.
 fn run<R: Read, W: Write>(
     from: &mut R,
     to: &mut W,
@@ -97,16 +90,12 @@ fn run<R: Read, W: Write>(
     let begun = begin(frame, face_store, sphere_store, out);
     let stage = begun.stage;
     let unbegun = loses(to, &out[..begun.written]);
-    let last = answer_all(
-        from,
-        to,
-        stage,
+    let mut set = Set {
         frame,
         face_store,
         sphere_store,
-        buffer,
-        out,
-    );
+    };
+    let last = answer_all(from, to, stage, &mut set, buffer, out);
     let unended = ends_lost(to, last.lost, &out[..last.written]);
     Last {
         stage: last.stage,

@@ -4,7 +4,7 @@ ghost use Rattle.std.specs.Prelude.{◌≡◌, ◌+◌, ◌*◌, ◌≤◌, leng
 ghost use Rattle.answer.specs.Given.{answered};
 ghost use Rattle.arithmetic.specs.Arith.{ieee};
 ghost use Rattle.origin.specs.Origins.{ORIGINS};
-ghost use Rattle.set.specs.Outcome.{lent};
+ghost use Rattle.set.specs.Lent.{SameBuffers, between};
 ghost use Rattle.strike_records.specs.Line.{LINE};
 ghost use Rattle.strike_records.specs.Writes.{lent_bytes};
 ghost use Rattle.strike_answers.specs.Reply.{reply_to, reply, replies};
@@ -12,95 +12,61 @@ ghost use Rattle.strike_answers.specs.Results.{Replies};
 
 use coordinates::coords::Face;
 use coordinates::lonlat::LonLat;
+use nearest::origins::BuiltIn;
+use set::set::Set;
 use strike_records::line::{write_lon_lat, write_place, write_refusal};
 use strike_records::record::{Request, decode};
 
 // A record that asks for place.
-fn answer_place(
-    frame: &[f64],
-    face_store: &mut [f64],
-    sphere_store: &mut [f64],
-    lonlat: LonLat,
-    out: &mut [u8],
-    at: usize,
-) -> usize
+fn answer_place(set: &mut Set<'_>, lonlat: LonLat, out: &mut [u8], at: usize) -> usize
     requires { at + LINE ≤ length out.old }
-    ensures { Replies (lent frame face_store sphere_store) (lent_bytes out) at result
+    ensures same { SameBuffers set.old set.new }
+    ensures replies { Replies (between set.old set.new) (lent_bytes out) at result
         (λ s. reply_to ieee ORIGINS s (answered (Request.Place lonlat))) }
 {
-    match calls::place(frame, face_store, sphere_store, lonlat) {
+    match calls::place(BuiltIn, set, lonlat) {
         Ok(place) => write_place(out, at, place),
         Err(refusal) => write_refusal(out, at, refusal.number()),
     }
 }
 
 // A record that asks for unplace.
-fn answer_unplace(
-    frame: &[f64],
-    face_store: &mut [f64],
-    sphere_store: &mut [f64],
-    point: Face,
-    origin: u8,
-    out: &mut [u8],
-    at: usize,
-) -> usize
+fn answer_unplace(set: &mut Set<'_>, point: Face, origin: u8, out: &mut [u8], at: usize) -> usize
     requires { at + LINE ≤ length out.old }
-    ensures { Replies (lent frame face_store sphere_store) (lent_bytes out) at result
+    ensures same { SameBuffers set.old set.new }
+    ensures replies { Replies (between set.old set.new) (lent_bytes out) at result
         (λ s. reply_to ieee ORIGINS s (answered (Request.Unplace point origin))) }
 {
-    match calls::unplace(frame, face_store, sphere_store, point, origin) {
+    match calls::unplace(BuiltIn, set, point, origin) {
         Ok(lonlat) => write_lon_lat(out, at, lonlat),
         Err(refusal) => write_refusal(out, at, refusal.number()),
     }
 }
 
 // A record, whatever it asks for.
-fn answer_record(
-    frame: &[f64],
-    face_store: &mut [f64],
-    sphere_store: &mut [f64],
-    bytes: &[u8],
-    out: &mut [u8],
-    at: usize,
-) -> usize
+fn answer_record(set: &mut Set<'_>, bytes: &[u8], out: &mut [u8], at: usize) -> usize
     requires { (length bytes.now ≡ 10) × (at + LINE ≤ length out.old) }
-    ensures { Replies (lent frame face_store sphere_store) (lent_bytes out) at result (λ s. reply ieee ORIGINS s bytes.now) }
+    ensures same { SameBuffers set.old set.new }
+    ensures replies { Replies (between set.old set.new) (lent_bytes out) at result (λ s. reply ieee ORIGINS s bytes.now) }
 {
     match decode(bytes) {
-        Ok(Request::Place(lonlat)) => {
-            answer_place(frame, face_store, sphere_store, lonlat, out, at)
-        }
-        Ok(Request::Unplace(point, origin)) => {
-            answer_unplace(frame, face_store, sphere_store, point, origin, out, at)
-        }
+        Ok(Request::Place(lonlat)) => { answer_place(set, lonlat, out, at) }
+        Ok(Request::Unplace(point, origin)) => { answer_unplace(set, point, origin, out, at) }
         Err(refusal) => write_refusal(out, at, refusal.number()),
     }
 }
 
 // The first records of the input.
-pub fn answer_records(
-    frame: &[f64],
-    face_store: &mut [f64],
-    sphere_store: &mut [f64],
-    input: &[u8],
-    out: &mut [u8],
-    count: usize,
-) -> usize
+pub fn answer_records(set: &mut Set<'_>, input: &[u8], out: &mut [u8], count: usize) -> usize
     requires { (count * 10 ≤ length input.now) × (count * LINE ≤ length out.old) }
-    ensures { Replies (lent frame face_store sphere_store) (lent_bytes out) 0 result
+    ensures same { SameBuffers set.old set.new }
+    ensures replies { Replies (between set.old set.new) (lent_bytes out) 0 result
         (λ s. replies ieee ORIGINS s input.now count) }
 {
     let mut written: usize = 0;
     for i in 0..count {
         let at = i * 10;
-        written = answer_record(
-            frame,
-            face_store,
-            sphere_store,
-            &input[at..at + 10],
-            out,
-            written,
-        );
+        written = answer_record(set, &input[at..at + 10], out, written);
     }
     written
 }

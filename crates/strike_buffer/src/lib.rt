@@ -1,10 +1,11 @@
 // The strike program's feeding from a buffer: the bytes that are not taken yet move to its start.
 #![tactic(auto)]
 
-ghost use Rattle.set.specs.Outcome.{lent};
+ghost use Rattle.set.specs.Lent.{SameBuffers, between};
 ghost use Rattle.strike_records.specs.Writes.{lent_bytes};
 ghost use Rattle.strike_session.specs.Results.{FeedsBuffer};
 
+use set::set::Set;
 use strike_feed::feed;
 use strike_session::session::{FedBuffer, Stage};
 
@@ -12,17 +13,16 @@ use strike_session::session::{FedBuffer, Stage};
 // those that have just arrived. Those that are still not taken are at its start afterwards.
 pub fn feed_buffer(
     stage: Stage,
-    frame: &[f64],
-    face_store: &mut [f64],
-    sphere_store: &mut [f64],
+    set: &mut Set<'_>,
     buffer: &mut [u8],
     filled: usize,
     out: &mut [u8],
 ) -> FedBuffer
-    ensures { FeedsBuffer stage (lent frame face_store sphere_store) (lent_bytes buffer) filled (lent_bytes out) result }
+    ensures same { SameBuffers set.old set.new }
+    ensures fed { FeedsBuffer stage (between set.old set.new) (lent_bytes buffer) filled (lent_bytes out) result }
 {
     let end = filled.min(buffer.len());
-    let fed = feed(stage, frame, face_store, sphere_store, &buffer[..end], out);
+    let fed = feed(stage, set, &buffer[..end], out);
     let taken = fed.taken;
     let next = fed.stage;
     buffer.copy_within(taken..end, 0);

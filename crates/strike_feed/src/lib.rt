@@ -5,34 +5,28 @@
 ghost use Rattle.std.specs.Prelude.{◌≤◌, length};
 ghost use Rattle.arithmetic.specs.Arith.{ieee};
 ghost use Rattle.origin.specs.Origins.{ORIGINS};
-ghost use Rattle.set.specs.Outcome.{lent};
+ghost use Rattle.set.specs.Lent.{SameBuffers, between};
 ghost use Rattle.strike_records.specs.Writes.{lent_bytes};
 ghost use Rattle.strike_session.specs.Pieces.{answerable, records_fed, fed};
 ghost use Rattle.strike_session.specs.Results.{Feeds};
 ghost use Rattle.strike_session.specs.declared.session.Stage.TheVariants.{Header};
 
 use answer::Refusal;
+use set::set::Set;
 use strike_answers::answers::answer_records;
 use strike_records::line::{LINE, write_refusal};
 use strike_records::record::is_header;
 use strike_session::session::{Fed, Stage};
 
 // All records that can be answered, behind so many bytes of the header.
-fn feed_records(
-    frame: &[f64],
-    face_store: &mut [f64],
-    sphere_store: &mut [f64],
-    header: usize,
-    left: u32,
-    input: &[u8],
-    out: &mut [u8],
-) -> Fed
+fn feed_records(set: &mut Set<'_>, header: usize, left: u32, input: &[u8], out: &mut [u8]) -> Fed
     requires { header ≤ 5 }
-    ensures { Feeds (lent frame face_store sphere_store) (lent_bytes out) result
+    ensures same { SameBuffers set.old set.new }
+    ensures fed { Feeds (between set.old set.new) (lent_bytes out) result
         (λ s. records_fed ieee ORIGINS header left s input.now (answerable left input.now (length out.old))) }
 {
     let count = (left as usize).min((input.len() / 10).min(out.len() / LINE));
-    let written = answer_records(frame, face_store, sphere_store, input, out, count);
+    let written = answer_records(set, input, out, count);
     Fed {
         stage: Stage::Records(left - count as u32),
         taken: header + count * 10,
@@ -41,14 +35,9 @@ fn feed_records(
 }
 
 // The header, and the records behind it.
-fn feed_header(
-    frame: &[f64],
-    face_store: &mut [f64],
-    sphere_store: &mut [f64],
-    input: &[u8],
-    out: &mut [u8],
-) -> Fed
-    ensures { Feeds (lent frame face_store sphere_store) (lent_bytes out) result
+fn feed_header(set: &mut Set<'_>, input: &[u8], out: &mut [u8]) -> Fed
+    ensures same { SameBuffers set.old set.new }
+    ensures fed { Feeds (between set.old set.new) (lent_bytes out) result
         (λ s. fed ieee ORIGINS Header s input.now (length out.old)) }
 {
     let nothing = Fed {
@@ -60,15 +49,7 @@ fn feed_header(
         return nothing;
     }
     if is_header(input) {
-        return feed_records(
-            frame,
-            face_store,
-            sphere_store,
-            5,
-            u32::MAX,
-            &input[5..],
-            out,
-        );
+        return feed_records(set, 5, u32::MAX, &input[5..], out);
     }
     if out.len() < LINE {
         return nothing;
@@ -83,21 +64,15 @@ fn feed_header(
 
 // Answers all that it can of the input that has arrived and was not taken yet. It takes
 // the header and whole records, as many as there is room for, with 40 bytes for each line.
-pub fn feed(
-    stage: Stage,
-    frame: &[f64],
-    face_store: &mut [f64],
-    sphere_store: &mut [f64],
-    input: &[u8],
-    out: &mut [u8],
-) -> Fed
-    ensures fed { Feeds (lent frame face_store sphere_store) (lent_bytes out) result
+pub fn feed(stage: Stage, set: &mut Set<'_>, input: &[u8], out: &mut [u8]) -> Fed
+    ensures same { SameBuffers set.old set.new }
+    ensures fed { Feeds (between set.old set.new) (lent_bytes out) result
         (λ s. fed ieee ORIGINS stage s input.now (length out.old)) }
     ensures within { (result.taken ≤ length input.now) × (result.written ≤ length out.old) }
 {
     match stage {
-        Stage::Header => feed_header(frame, face_store, sphere_store, input, out),
-        Stage::Records(left) => feed_records(frame, face_store, sphere_store, 0, left, input, out),
+        Stage::Header => feed_header(set, input, out),
+        Stage::Records(left) => feed_records(set, 0, left, input, out),
         Stage::Stopped => Fed {
             stage,
             taken: 0,

@@ -2,9 +2,10 @@
 #![tactic(auto)]
 
 ghost use Rattle.std.specs.Prelude.{◌≡◌, true, ◌≤◌, length};
-ghost use Rattle.set.specs.Outcome.{lent};
+ghost use Rattle.set.specs.Lent.{SameBuffers, held};
 ghost use Rattle.strike_reads.specs.Steps.{Begins, Roomy, state_of, Read, Passes, bytes_of, lines_of};
 
+use set::set::Set;
 use std::io::{Read, Write};
 use strike_session::session::Stage;
 use strike_step::{Standing, step};
@@ -14,22 +15,22 @@ use strike_step::{Standing, step};
 const READS: u64 = 42_949_672_960;
 
 // All reads of a session. A loop has to end, and nothing says that the input does, so the reads are counted. The
-// count never ends a session: all reads end by a step that ends the program.
+// count never ends a session: all reads end by a step that ends the program. The buffers' room is asked for here, and is no fact
+// of a struct that lends them: such a struct would have to be said to keep both lengths (see `step`).
 pub fn read_all<R: Read, W: Write>(
     from: &mut R,
     to: &mut W,
     stage: Stage,
-    frame: &[f64],
-    face_store: &mut [f64],
-    sphere_store: &mut [f64],
+    set: &mut Set<'_>,
     buffer: &mut [u8],
     out: &mut [u8],
 ) -> Standing
     requires { Begins stage × Roomy buffer.old out.old }
+    ensures same { SameBuffers set.old set.new }
     ensures ended { result.ended ≡ true }
     ensures read { (r : Read (length buffer.old) (length out.old)
-        (state_of stage 0 (lent frame face_store sphere_store).entry buffer.old)
-        (state_of result.stage result.kept (lent frame face_store sphere_store).exit buffer.new))
+        (state_of stage 0 (held set.old) buffer.old)
+        (state_of result.stage result.kept (held set.new) buffer.new))
         × Passes (R.remaining from.old) (R.remaining from.new) (W.contents to.old) (W.contents to.new)
         (bytes_of r) (lines_of r) result.lost }
     ensures held { result.kept ≤ length buffer.new }
@@ -41,7 +42,7 @@ pub fn read_all<R: Read, W: Write>(
         lost: false,
     };
     for _read in 0..READS {
-        at = step(from, to, at, frame, face_store, sphere_store, buffer, out);
+        at = step(from, to, at, set, buffer, out);
         if at.ended {
             return at;
         }

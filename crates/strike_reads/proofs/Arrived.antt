@@ -1,27 +1,25 @@
 -- What a read brought stands behind the kept bytes, and what feeding leaves in the buffers is where the session stands then. Assumes
 -- nothing.
-use mathlib.Core.Path.{◌≡◌, sym, ap, ◌∙◌, subst}
-use mathlib.Core.List.{List, [], ◌++◌}
+use mathlib.Core.Path.{◌≡◌, sym, ap, ◌∙◌}
+use mathlib.Core.List.{List, ◌++◌}
 use Prim.Native.Nat.{ℕ, ◌+◌, ◌≤◌}
 use native.Mathlib.Nat.{zero-add}
 use native.Mathlib.Omega.{arith}
 use lib.ListN.{length, take, drop, length-drop}
 use lib.Seq.{length-take-le, take-add, take-append_seam}
-use Rattle.answer.specs.Given.{Given, answered, refused}
 use Rattle.arithmetic.specs.Arith.{ieee}
 use Rattle.origin.specs.Origins.{ORIGINS}
 use Rattle.set.specs.Set.{Set}
-use Rattle.set.specs.Open.{open_on}
 use Rattle.stores.specs.Slots.{put}
 use Rattle.strike_records.specs.Line.{LINE}
 use Rattle.strike_records.specs.Writes.{change}
 use Rattle.strike_session.specs.Results.{FeedsBuffer, WritesIfRoom}
-use Rattle.strike_session.specs.Pieces.{Fed, fed, end_line, fitting, left_over, begin_stage}
+use Rattle.strike_session.specs.Pieces.{Fed, fed, end_line, fitting, left_over}
 use Rattle.strike_session.specs.declared.session.Stage.{Stage}
 use Rattle.strike_session.specs.declared.session.FedBuffer.{FedBuffer}
 use Rattle.strike_records.proofs.Written.{writes_as}
 use Rattle.strike_session.proofs.Results.{with_room}
-use Rattle.strike_reads.specs.Steps.{State, Begins, begun, given, next, Read, Ended}
+use Rattle.strike_reads.specs.Steps.{State, given, next, Read, Ended}
 
 -- the bytes that a read put behind the kept ones
 abbrev pub arrived : ℕ → ℕ → List ℕ → List ℕ
@@ -35,7 +33,7 @@ unfolding put
 put_start xs ys = take-append_seam ys (drop (length ys) xs)
 
 -- where the session stands after feeding what a read brought, and the lines
-module _ (stage : Stage) (s₀ s₁ : Set) (kept n : ℕ) (buffer₀ buffer buffer₁ before out : List ℕ) (result : FedBuffer)
+module _ {stage : Stage} {s₀ s₁ : Set} (kept n : ℕ) (buffer₀ : List ℕ) {buffer buffer₁ before out : List ℕ} {result : FedBuffer}
     (same : take kept buffer ≡ take kept buffer₀)
     (fed-from : FeedsBuffer stage (change s₀ s₁) (change buffer buffer₁) (kept + n) (change before out) result) where
   abbrev from : State
@@ -82,27 +80,7 @@ module _ (stage : Stage) (s₀ s₁ : Set) (kept n : ℕ) (buffer₀ buffer buff
       ∙ put_start before lines
       ∙ ap (λ (f : Fed). f.lines) same_fed
 
--- ---- the session's ends
-
-pub begins : (stage : Stage) (given : Given (Unit {0})) → stage ≡ begin_stage given → Begins stage
-begins stage given e = subst Begins (sym e) (by given)
-  where
-    by : (given : Given (Unit {0})) → Begins (begin_stage given)
-    by (answered u) = tt
-    by (refused n) = tt
-
--- a session from where open left it is one from the set as it was
-module _ (s₀ s₁ : Set) (buffer before before₁ : List ℕ) (stage : Stage) where
-  pub from_open : stage ≡ begin_stage (open_on ieee ORIGINS s₀).answer → s₁ ≡ (open_on ieee ORIGINS s₀).set → length before₁ ≡ length before
-      → (space : ℕ) (last : State) (written : ℕ) (out : List ℕ)
-      → Ended space (length before₁) (record { stage = stage; set = s₁; kept = take 0 buffer }) last written out
-      → Ended space (length before) (begun s₀) last written out
-  from_open e f l space last written out ends =
-      let is : ◌≡◌ {A = State} (record { stage = stage; set = s₁; kept = take 0 buffer }) (begun s₀) = λ j. record { stage = e j; set = f j; kept = [] } in
-      subst (λ (s : State). Ended space (length before) s last written out) is
-      (subst (λ (n : ℕ). Ended space n (record { stage = stage; set = s₁; kept = take 0 buffer }) last written out) l ends)
-
--- with room for a line, the last line is the one that the input's end gives
+-- ---- the session's end: with room for a line, the last line is the one that the input's end gives
 pub ended : (space room written kept : ℕ) (s last : State) (before out : List ℕ) → LINE ≤ length before → length last.kept ≡ kept
     → Read space room s last → WritesIfRoom (change before out) (end_line last.stage kept) written → Ended space room s last written out
 ended space room written kept s last before out roomy k r w =

@@ -1,25 +1,23 @@
 -- The count of reads lasts: a session that is not over takes more bytes than are kept, every read brings one of them, and there are more reads than such bytes.
 -- Assumes nothing.
-use mathlib.Core.Path.{◌≡◌, refl, sym, ap, ◌∙◌, subst}
-use mathlib.Core.Bool.{Bool, true, false, true≢false}
+use mathlib.Core.Path.{◌≡◌, refl, sym, subst}
+use mathlib.Core.Bool.{Bool, false, true≢false}
 use mathlib.Core.List.{List, ◌++◌}
 use Prim.Native.Nat.{ℕ, zero, suc, ◌+◌, ◌-◌, ◌*◌, ◌/◌, ◌≤◌, ◌<◌, min}
 use native.Mathlib.Nat.{le_trans, min-le_left, min-le_right}
 use native.Mathlib.Omega.{arith}
-use borrow.Author.Tests.{ltb-true, ltb-false}
-use lib.Dec.{ltb}
 use lib.ListN.{length, drop, length-append, length-drop}
 use Rattle.arithmetic.specs.Arith.{ieee}
 use Rattle.origin.specs.Origins.{ORIGINS}
-use Rattle.strike_records.specs.Line.{LINE, refusal_line}
-use Rattle.strike_records.specs.Record.{headed}
+use Rattle.strike_records.specs.Line.{LINE}
 use Rattle.set.specs.Set.{Set}
 use Rattle.strike_session.specs.Session.{MAX_RECORDS}
-use Rattle.strike_session.specs.Pieces.{Fed, still, answerable, records_fed, fed, over}
+use Rattle.strike_session.specs.Pieces.{Fed, answerable, records_fed, fed, over}
 use Rattle.strike_session.specs.declared.session.Stage.{Stage}
 use Rattle.strike_session.specs.declared.session.Stage.TheVariants.{Header, Records, Stopped}
 use Rattle.strike_session.proofs.Cutting.{Settled, settled_next}
-use Rattle.strike_reads.specs.Steps.{State, Begins, next, Stepped, rests, feeds, Read, more}
+use Rattle.strike_session.proofs.Feeding.{header_cases}
+use Rattle.strike_reads.specs.Steps.{State, Begins, next, Stepped, rests, feeds}
 
 -- the bytes that a session can still take, those that are kept among them, and one read more for the step that ends it
 abbrev Lasts : ℕ → Stage → ℕ → Type 0
@@ -36,13 +34,6 @@ some_left reads Header kept c = omega (arith, c.0, c.1)
 some_left reads (Records zero) kept c = c.1
 some_left reads (Records (suc n)) kept c = omega (arith, c.0, c.1)
 some_left reads Stopped kept c = c.1
-
--- where a session is not over, less is kept than a record
-pub few_kept : (reads : ℕ) (stage : Stage) (kept : ℕ) → Counted reads stage kept → over stage ≡ false → kept < 10
-few_kept reads Header kept c o = omega (arith, c.0)
-few_kept reads (Records zero) kept c o = absurd (true≢false o)
-few_kept reads (Records (suc n)) kept c o = c.0
-few_kept reads Stopped kept c o = absurd (true≢false o)
 
 module _ (reads : ℕ) (s : Set) (bytes : List ℕ) (room : ℕ) where
   abbrev After : Fed → Type 0
@@ -68,21 +59,12 @@ module _ (reads : ℕ) (s : Set) (bytes : List ℕ) (room : ℕ) where
   fed_lasts Stopped kept c o h r = absurd (true≢false o)
   fed_lasts (Records zero) kept c o h r = absurd (true≢false o)
   fed_lasts (Records (suc n)) kept c o h r = records_last 0 (suc n) (omega arith) (omega (arith, c.0, c.1)) (omega (arith, c.1))
-  fed_lasts Header kept c o h r = by (ltb (length bytes) 5) refl (headed bytes) (ltb room LINE) refl
-    where
-      by : (short : Bool) → ltb (length bytes) 5 ≡ short → (good narrow : Bool) → ltb room LINE ≡ narrow
-          → After (elim short [
-            | true ↦ still Header s
-            | false ↦
-                elim good [
-                  | true ↦ records_fed ieee ORIGINS 5 MAX_RECORDS s (drop 5 bytes) (answerable MAX_RECORDS (drop 5 bytes) room)
-                  | false ↦ elim narrow [ true ↦ still Header s | false ↦ record { stage = Stopped; taken = 5; lines = refusal_line 11; set = s } ]
-                ]
-          ])
-      by true e good narrow f = omega (arith, c.1)
-      by false e true narrow f = records_last 5 MAX_RECORDS (ltb-false (length bytes) 5 e) (omega (arith, c.0, c.1)) (omega (arith, c.1))
-      by false e false true f = absurd (omega (arith, ltb-true room LINE f))
-      by false e false false f = omega (arith, c.0, c.1)
+  fed_lasts Header kept c o h r =
+      header_cases ieee ORIGINS s bytes room After
+      (λ p. omega (arith, c.1))
+      (λ p g. records_last 5 MAX_RECORDS p (omega (arith, c.0, c.1)) (omega (arith, c.1)))
+      (λ p g narrow. absurd (omega arith))
+      (λ p g wide. omega (arith, c.0, c.1))
 
 -- one read more
 pub counted_next : (reads room : ℕ) (t : State) (arrived : List ℕ) → 0 < length arrived → (length arrived / 10 + 1) * LINE ≤ room → over t.stage ≡ false
@@ -99,11 +81,6 @@ counted_first (Records n) b = absurd b
 counted_first Stopped b = (tt, omega arith)
 
 -- a step more
-module _ (room space : ℕ) (s t u : State) (before out : List ℕ) (same : length before ≡ room) where
-  pub read_on : (ended lost : Bool) → Read space room s t → Stepped space t u before out ended lost → Read space room s u
-  read_on ended lost r (rests e o) = subst (Read space room s) (sym e) r
-  read_on ended lost r (feeds p f m v e o l) = subst (Read space room s) (sym (e ∙ ap (λ (n : ℕ). next n t p) same)) (more r p f m v)
-
 module _ (reads space : ℕ) (t u : State) (before out : List ℕ) (roomy : (space / 10 + 1) * LINE ≤ length before) where
   pub counted_on : (ended lost : Bool) → Stepped space t u before out ended lost → ended ≡ false → Counted reads t.stage (length t.kept)
       → Counted (reads - 1) u.stage (length u.kept)

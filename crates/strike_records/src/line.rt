@@ -9,7 +9,8 @@ use answer::bits;
 use coordinates::lonlat::LonLat;
 use dodecahedron::place::Place;
 
-// Room for any line.
+// Room for any line. The three that write a line ask for it: what they write is counted by the place that they return, which a
+// struct of the slice and the place would have to hand back all the same.
 pub const LINE: usize = 40;
 
 // The letter of a digit below 16.

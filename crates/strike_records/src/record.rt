@@ -35,7 +35,7 @@ fn signed(bytes: &[u8], at: usize) -> f64
     f64::from(i32::from_be_bytes(four))
 }
 
-// The two numbers from a place on as a longitude and a latitude.
+// The two numbers from a place on as a longitude and a latitude. The bound is asked for as an index's is.
 pub fn lon_lat(bytes: &[u8], at: usize) -> LonLat
     requires { at + 8 ≤ length bytes.now }
     ensures { result ≡ lon_lat_in ieee bytes.now at }

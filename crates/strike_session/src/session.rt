@@ -9,6 +9,7 @@ ghost use Rattle.strike_session.specs.Pieces.{end_line, over};
 ghost use Rattle.strike_session.specs.Results.{WritesIfRoom, Opens};
 
 use answer::Refusal;
+use nearest::origins::BuiltIn;
 use strike_records::line::{LINE, write_refusal};
 
 // The records that are still taken, after the header; a stopped session takes nothing more.
@@ -43,7 +44,8 @@ pub struct FedBuffer {
     pub written: usize,
 }
 
-// Opens the set, before anything is read. Where open refuses, that is the only line.
+// Opens the set, before anything is read. Where open refuses, that is the only line. The buffers are lent one by one, as open
+// takes them.
 pub fn begin(
     frame: &mut [f64],
     face_store: &mut [f64],
@@ -52,7 +54,7 @@ pub fn begin(
 ) -> Begun
     ensures { Opens (lent_mut frame face_store sphere_store) (lent_bytes out) result }
 {
-    match open_calls::open(frame, face_store, sphere_store) {
+    match open_calls::open(BuiltIn, frame, face_store, sphere_store) {
         Ok(()) => Begun {
             stage: Stage::Header,
             written: 0,

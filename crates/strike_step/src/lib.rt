@@ -3,18 +3,20 @@
 #![tactic(auto)]
 
 ghost use Rattle.std.specs.Prelude.{◌≡◌, false, ◌≤◌, ◌<◌, length};
-ghost use Rattle.set.specs.Outcome.{lent};
+ghost use Rattle.set.specs.Lent.{SameBuffers, held};
 ghost use Rattle.std.specs.Io.KnownBytes.{Appends};
 ghost use Rattle.strike_reads.specs.Steps.{state_of, Stepped, Passes, step_bytes, step_lines};
 ghost use Rattle.strike_session.specs.Pieces.{over};
 
+use set::set::Set;
 use std::io::{Read, Write};
 use strike_buffer::feed_buffer;
 use strike_reads::read_behind;
 use strike_session::session::{Stage, is_over};
 
 // Between two reads: where the session stands, how many bytes of the buffer were not taken, whether
-// nothing more is read, and whether lines are lost because a write failed.
+// nothing more is read, and whether lines are lost because a write failed. `ended` is true of all reads together:
+// that it is, in their contract, rules out that the count of reads ends a session.
 #[derive(Clone, Copy)]
 pub struct Standing {
     pub stage: Stage,
@@ -30,21 +32,21 @@ pub fn loses<W: Write>(to: &mut W, lines: &[u8]) -> bool
     to.write_all(lines).is_err()
 }
 
-// One read, and the lines of what has arrived then.
+// One read, and the lines of what has arrived then. The buffers are lent one by one: a slice keeps its length by itself, while
+// of two slices in a struct that is lent each contract has to say it, and a step would ask for their room, which it does not need.
 pub fn step<R: Read, W: Write>(
     from: &mut R,
     to: &mut W,
     at: Standing,
-    frame: &[f64],
-    face_store: &mut [f64],
-    sphere_store: &mut [f64],
+    set: &mut Set<'_>,
     buffer: &mut [u8],
     out: &mut [u8],
 ) -> Standing
     requires { (over at.stage ≡ false → at.kept < length buffer.old) × (at.kept ≤ length buffer.old) }
+    ensures same { SameBuffers set.old set.new }
     ensures stepped { (p : Stepped (length buffer.old)
-        (state_of at.stage at.kept (lent frame face_store sphere_store).entry buffer.old)
-        (state_of result.stage result.kept (lent frame face_store sphere_store).exit buffer.new)
+        (state_of at.stage at.kept (held set.old) buffer.old)
+        (state_of result.stage result.kept (held set.new) buffer.new)
         out.old out.new result.ended result.lost)
         × Passes (R.remaining from.old) (R.remaining from.new) (W.contents to.old) (W.contents to.new)
         (step_bytes p) (step_lines p) result.lost }
@@ -67,15 +69,7 @@ pub fn step<R: Read, W: Write>(
             ..at
         };
     }
-    let turn = feed_buffer(
-        stage,
-        frame,
-        face_store,
-        sphere_store,
-        buffer,
-        kept + n,
-        out,
-    );
+    let turn = feed_buffer(stage, set, buffer, kept + n, out);
     let lost = loses(to, &out[..turn.written]);
     let next = turn.stage;
     Standing {

@@ -6,7 +6,8 @@ ghost use Rattle.tiling.specs.Tiling.{get_quintant_vertices};
 use coordinates::coords::Face;
 use coordinates::vec2::Vec2;
 
-// The centre of the face and the two corners of one of its five quintants.
+// The centre of the face and the two corners of one of its five quintants. No FaceTriangle, though three points too: the
+// Rust's name, and its fields say which point is which.
 #[derive(Clone, Copy)]
 pub struct QuintantVertices {
     pub center: Face,

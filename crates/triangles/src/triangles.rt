@@ -1,10 +1,8 @@
 // What the triangles of slots are taken with: a run of numbers as a triangle or a vector, the face
 // triangle of a slot, and the vertex of a corner.
-ghost use Rattle.std.specs.Prelude.{◌≡◌, false, ◌<◌, length};
+ghost use Rattle.std.specs.Prelude.{◌≡◌, ◌<◌, length};
 ghost use Rattle.answer.specs.Answer.{given};
 ghost use Rattle.arithmetic.specs.Arith.{ieee};
-ghost use Rattle.elementary.specs.Sine.{beyond};
-ghost use Rattle.coordinates.specs.Constants.{8·0};
 ghost use Rattle.set.specs.Sizes.{FACE_COORDINATES, FACE_SLOTS, FACE_STORE, SPHERE_COORDINATES};
 ghost use Rattle.stores.specs.Slots.{face_in, sphere_in, vector_in};
 ghost use Rattle.triangles.specs.Triangles.{face_taken, corner_vertex};
@@ -15,9 +13,9 @@ use coordinates::coords::{Cartesian, Face, FaceTriangle, SphericalTriangle};
 use coordinates::polar::Polar;
 use coordinates::vec2::Vec2;
 use coordinates::vec3::Vec3;
-use origin::utils::Origin;
 use plane::to_polar;
 use quaternion::transform_quat;
+use set::on_origin::SoundOrigin;
 use set::sizes::FACE_WIDTH;
 use stores::slots::is_filled;
 use transforms::coordinate_transforms::to_cartesian;
@@ -94,16 +92,14 @@ pub fn take_face(store: &[f64], slot: usize) -> FaceTriangle
 
 // A corner of a face triangle, turned to the origin and looked up in the frame: unprojected to the
 // sphere with the origin's own angle on top, and rotated out of the origin's space.
-pub fn corner_vertex(frame: &[f64], origin: Origin, corner: Face) -> Result<Cartesian, Refusal>
-    requires { beyond 8·0 origin.angle.0 ≡ false }
-    ensures { given result ≡ corner_vertex ieee frame.now origin corner }
+pub fn corner_vertex(frame: &[f64], origin: SoundOrigin, corner: Face) -> Result<Cartesian, Refusal>
+    ensures { given result ≡ corner_vertex ieee frame.now origin.origin corner }
 {
     let polar = to_polar(corner);
     let rotated_polar = Polar {
         rho: polar.rho,
-        gamma: Radians(polar.gamma.0 + origin.angle.0),
+        gamma: Radians(polar.gamma.0 + origin.origin.angle.0),
     };
     let rotated = to_cartesian(transforms::gnomonic::inverse(rotated_polar));
-    let quat = origin.quat;
-    crs::frame::get_vertex(frame, transform_quat(rotated, quat))
+    crs::frame::get_vertex(frame, transform_quat(rotated, origin.origin.quat))
 }

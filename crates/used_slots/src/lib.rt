@@ -4,19 +4,20 @@
 ghost use Rattle.std.specs.Prelude.{◌≡◌, ◌<◌, length};
 ghost use Rattle.arithmetic.specs.Arith.{ieee};
 ghost use Rattle.set.specs.Sizes.{FACE_STORE};
-ghost use Rattle.set.specs.Outcome.{lent, lent_shared, Becomes};
+ghost use Rattle.set.specs.Lent.{seen, held, SameBuffers};
 ghost use Rattle.stores.specs.Used.{has_slots, faces_written, written_if_there};
 
 use set::checks::check_call;
+use set::set::{Set, SetRef};
 use slot_writes::{write_face_slot, write_sphere_slot};
 use stores::slots::{face_slot, source_slot, sphere_slot};
 use stores::used::Used;
 
 // Whether the set passes 1 to 4, and the slots used are among its.
-fn has_slots(frame: &[f64], face_store: &[f64], sphere_store: &[f64], used: Used) -> bool
-    ensures { result ≡ has_slots (lent_shared frame face_store sphere_store).entry used }
+fn has_slots(set: SetRef<'_>, used: Used) -> bool
+    ensures { result ≡ has_slots (seen set.entry) used }
 {
-    check_call(frame, face_store, sphere_store, used.origin).is_ok() && used.index < 10
+    check_call(set, used.origin).is_ok() && used.index < 10
 }
 
 // Writes the face slots that a call uses and that are empty.
@@ -32,12 +33,13 @@ fn write_faces(store: &mut [f64], index: u8, reflected: bool)
 
 // Writes the slots that an answered call used and that are empty; where the set has not all of them,
 // nothing.
-pub fn write_used(frame: &[f64], face_store: &mut [f64], sphere_store: &mut [f64], used: Used)
-    ensures { Becomes (lent frame face_store sphere_store) (λ s. written_if_there ieee s used) }
+pub fn write_used(set: &mut Set<'_>, used: Used)
+    ensures same { SameBuffers set.old set.new }
+    ensures written { held set.new ≡ written_if_there ieee (held set.old) used }
 {
-    if has_slots(frame, face_store, sphere_store, used) {
-        write_faces(face_store, used.index, used.reflected);
+    if has_slots(set.view(), used) {
+        write_faces(set.face_store, used.index, used.reflected);
         let slot = sphere_slot(used.origin, used.index, used.reflected);
-        write_sphere_slot(sphere_store, slot, used.triangle, used.bxc);
+        write_sphere_slot(set.sphere_store, slot, used.triangle, used.bxc);
     }
 }

@@ -29,7 +29,7 @@ pub fn raise_count(counts: &mut [u32; 12], origin: u8)
 }
 
 // How many of n strikes from a place on are left when, from the oldest on, those are dropped that are 180 minutes or more
-// behind `minute`.
+// behind `minute`. In both loops the place is counted beside them: it goes from a place to the next, as the definitions do.
 pub fn remaining(minutes: &[u32; 4096], minute: u32, n: u32, from: u32) -> u32
     ensures { result ≡ remain minutes.now minute n (from % 4096) }
 {

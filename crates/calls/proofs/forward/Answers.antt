@@ -1,16 +1,18 @@
 -- `forward` meets its contract: it ends as its kind of call does, on slots that are there. Assumes nothing.
 use mathlib.Core.Path.{ap, ◌∙◌}
 use Rattle.arithmetic.specs.Arith.{ieee}
-use Rattle.origin.specs.Origins.{ORIGINS}
 use Rattle.dodecahedron.specs.Work.{answer_of}
 use Rattle.dodecahedron.proofs.Ended.{forward_there, left_there}
 use Rattle.calls.proofs.forward.Goals as goal
 
 pub returns : goal.returns
-returns c =
-    let worked = c.forward_work-work.ensures in
-    let leaves = c.leave.ensures in
+returns g c =
+    let worked = rw c.view.ensures at c.forward_work-work.ensures in
+    let ends = c.leave.ensures in
     record {
-      answer = leaves.answer ∙ ap answer_of worked;
-      left = leaves.left ∙ left_there ieee _ _ _ worked (forward_there ieee ORIGINS _ _ _);
+      same = ends.same;
+      leaves = record {
+        answer = ends.leaves.answer ∙ ap answer_of worked;
+        left = ends.leaves.left ∙ left_there ieee _ _ _ worked (forward_there ieee _ _ _ _);
+      };
     }

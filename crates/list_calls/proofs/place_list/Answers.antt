@@ -1,26 +1,22 @@
 -- `place_list` meets its contract. Of `check_list`, `turns` and `place_one` only the contracts are known. Assumes nothing.
-use Rattle.std.proofs.Common.{◌∙◌, ◌<◌, ap, length, arith, add-one}
+use Rattle.std.proofs.Common.{◌<◌, length, arith}
 use Rattle.answer.specs.Answer.{given}
 use Rattle.arithmetic.specs.Arith.{ieee}
-use Rattle.origin.specs.Origins.{ORIGINS}
+use Rattle.set.specs.Lent.{held}
 use Rattle.place_list.specs.Lists.{turns_of}
-use Rattle.list_parts.proofs.Loop.{within}
-use Rattle.list_parts.proofs.Kept.{not_turned, turned_next, turned_end}
+use Rattle.list_parts.proofs.Loop.{within, long, turned_end}
 use Rattle.list_calls.proofs.place_list.Goals as goal
 
-pub loop-i-init : goal.loop-i-init
-loop-i-init c = not_turned ORIGINS _ _ _
-
 pub bounds-results-i : goal.bounds-results-i
-bounds-results-i c =
-    let at = c.loop-i.invariant in
+bounds-results-i g c =
+    let table = g.O.Origins.table c.args.origins in
+    let entry = held c.args.set.now in
+    let check = rw c.view.ensures at c.check_list-check.ensures in
     let placed : c.loop-i.i < turns_of (given c.check_list-check.result) (length c.args.positions.now) = omega arith in
-    let inside = within ieee ORIGINS _ _ _ _ _ c.check_list-check.ensures placed in
-    omega (arith, inside.1, ap length at.results_are ∙ at.kept.results)
+    let inside = within ieee table entry _ _ _ _ check placed in
+    omega (arith, inside.1, long ieee table entry c.args.positions.now c.args.results.now c.loop-i.i c.loop-i.invariant.1)
 
-pub loop-i-preserved : goal.loop-i-preserved
-loop-i-preserved c =
-    rw add-one (turned_next ORIGINS _ _ _ c.loop-i.i _ c.loop-i.invariant c.place_one.ensures c.place_one.auto.face_store c.place_one.auto.sphere_store)
-
-pub returns : goal.returns
-returns c = turned_end ORIGINS _ _ _ _ c.loop-i.i c.loop-i.invariant c.check_list-check.ensures (omega arith)
+pub returns-clause-listed : goal.returns-clause-listed
+returns-clause-listed g c =
+    let check = rw c.view.ensures at c.check_list-check.ensures in
+    turned_end ieee _ _ _ _ _ c.loop-i.i c.loop-i.invariant.1 check (omega arith)

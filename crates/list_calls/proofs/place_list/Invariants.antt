@@ -1,9 +1,9 @@
--- The loop's invariant, once i positions are placed: both stores and the results are those of turn i (list_parts's `Turned`).
-use Rattle.origin.specs.Origins.{ORIGINS}
-use Rattle.set.specs.Set.{set_of}
-use Rattle.list_parts.proofs.Kept.{Turned}
+-- The loop's invariant, once i positions are placed: the results and the set are those of turn i (list_parts's `Turned`), and the set is lent still.
+use Rattle.arithmetic.specs.Arith.{ieee}
+use Rattle.set.specs.Lent.{held, SameBuffers}
+use Rattle.list_parts.proofs.Loop.{Turned}
 use Rattle.list_calls.proofs.place_list.Given as goal
 
 abbrev pub invariant-loop-i : goal.invariant-loop-i
-invariant-loop-i l =
-    Turned ORIGINS (set_of l.frame l.fn.face_store l.fn.sphere_store) l.positions l.fn.results l.i l.face_store l.sphere_store l.results
+invariant-loop-i g l = SameBuffers l.fn.set l.set
+    × Turned ieee (g.O.Origins.table l.origins) (held l.fn.set) l.positions l.fn.results l.i l.results (held l.set)

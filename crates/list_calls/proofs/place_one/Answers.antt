@@ -2,6 +2,6 @@
 use Rattle.place_list.specs.Lists.{placed_one}
 use Rattle.list_calls.proofs.place_one.Goals as goal
 
-pub returns : goal.returns
+pub returns-clause-stepped : goal.returns-clause-stepped
 unfolding placed_one
-returns c = rw (c.result.ensures, c.place-given.ensures.answer, c.place-given.ensures.left)
+returns-clause-stepped g c = rw (c.result.ensures, c.place.ensures.leaves.answer, c.place.ensures.leaves.left)

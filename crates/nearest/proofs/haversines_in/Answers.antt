@@ -14,10 +14,10 @@ use Rattle.nearest.proofs.haversines_in.Goals as goal
 pub haversine_by-requires : goal.haversine_by-requires
 haversine_by-requires c =
     let k = c.loop-k.k in
-    let o = sound_small c.args.table.now c.requires.table_value k (omega arith) in
+    let o = sound_small c.args.table.rows.now c.args.table.sound k (omega arith) in
     record {
-      theta_value = c.requires.theta_value;
-      theta_value_2 = rw c.origin_in.ensures (small_axis (origin_at c.args.table.now k) o);
+      theta_value = c.requires;
+      theta_value_2 = rw c.origin_in.ensures (small_axis (origin_at c.args.table.rows.now k) o);
       sine_value = c.sin_inside-sine.ensures;
     }
 
@@ -26,9 +26,9 @@ loop-k-preserved c =
     let v = c.loop-k in
     let a = c.args in
     let p = a.point in
-    let hs = haversines ieee a.table.now p in
-    let count = haversine_count ieee a.table.now p in
-    let here = haversine_at ieee a.table.now p v.k (omega arith) in
+    let hs = haversines ieee a.table.rows.now p in
+    let count = haversine_count ieee a.table.rows.now p in
+    let here = haversine_at ieee a.table.rows.now p v.k (omega arith) in
     let d = rw c.origin_in.ensures at c.haversine_by.ensures in
     (simp length-set v.invariant.0, filled_on hs v.distances v.k _ nan (omega arith) (omega arith) v.invariant.1 (d ∙ sym here))
 
@@ -36,5 +36,5 @@ pub returns : goal.returns
 returns c =
     let v = c.loop-k in
     let a = c.args in
-    let count = haversine_count ieee a.table.now a.point in
-    filled_all (haversines ieee a.table.now a.point) v.distances v.k (omega arith) (omega arith) v.invariant.1
+    let count = haversine_count ieee a.table.rows.now a.point in
+    filled_all (haversines ieee a.table.rows.now a.point) v.distances v.k (omega arith) (omega arith) v.invariant.1

@@ -6,4 +6,4 @@ use Rattle.nearest.specs.Nearest.{haversines}
 use Rattle.nearest.proofs.haversines_in.Given as goal
 
 abbrev pub invariant-loop-k : goal.invariant-loop-k
-invariant-loop-k l = (length l.distances ≡ 12) × (take l.k l.distances ≡ take l.k (haversines ieee l.table l.point))
+invariant-loop-k l = (length l.distances ≡ 12) × (take l.k l.distances ≡ take l.k (haversines ieee l.table.rows.now l.point))

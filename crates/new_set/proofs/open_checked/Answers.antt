@@ -7,12 +7,12 @@ use Rattle.arithmetic.specs.Arith.{ieee}
 use Rattle.arithmetic.specs.Numbers.{0·0}
 use Rattle.crs.specs.Frame.{frame_rows}
 use Rattle.set.proofs.Lengths.{with_passed}
-use Rattle.set.proofs.Overwrite.{front_length, front_is}
+use Rattle.set.proofs.Front.{front_length, front_is}
 use Rattle.set.proofs.Opening.{open_rows, open_opened}
 use Rattle.new_set.proofs.open_checked.Goals as goal
 
-pub build_frame-used-requires : goal.build_frame-used-requires
-build_frame-used-requires c = (with_passed ieee _ _ c.requires).1
+pub invariant_of-sound : goal.invariant_of-sound
+invariant_of-sound c = record { sound = (with_passed ieee _ _ c.requires).1 }
 
 pub returns-then-used-ne-FRAME : goal.returns-then-used-ne-FRAME
 returns-then-used-ne-FRAME c =

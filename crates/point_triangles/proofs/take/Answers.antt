@@ -15,6 +15,9 @@ returns-in_err-check_call c =
     handed_on _ _ c.from_residual.ensures
     ∙ sym (set_refused ieee _ _ _ _ _ (sym c.check_call.ensures ∙ ap given c.in_err-check_call.was))
 
+pub invariant_of-on : goal.invariant_of-on
+invariant_of-on c = record { passes = sym c.check_call.ensures ∙ ap given c.in_ok-check_call.was }
+
 pub returns-in_err-used : goal.returns-in_err-used
 returns-in_err-used c =
     let set_passes = sym c.check_call.ensures ∙ ap given c.in_ok-check_call.was in

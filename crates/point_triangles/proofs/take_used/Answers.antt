@@ -20,18 +20,17 @@ overflow_cast-index c =
 pub take_sphere-requires : goal.take_sphere-requires
 take_sphere-requires c =
     let small : c.get_face_triangle_index-index.result < 10 = rw c.get_face_triangle_index-index.ensures (index_below_10 ieee _) in
-    let fits = call_passed _ _ c.requires.0 in
+    let fits = call_passed _ _ c.args.on.passes in
     let r = c.should_reflect-reflected.result in
     record {
       slot_bound = (rw c.sphere_slot-slot.ensures (sphere_below _ _ r fits.1 small), fits.0.spheres);
       source_bound = (rw c.source_slot-source.ensures (source_below _ r small), fits.0.faces);
-      angle_value = c.requires.1;
     }
 
 pub take_cross-bxc-requires : goal.take_cross-bxc-requires
 take_cross-bxc-requires c =
     let small : c.get_face_triangle_index-index.result < 10 = rw c.get_face_triangle_index-index.ensures (index_below_10 ieee _) in
-    let fits = call_passed _ _ c.requires.0 in
+    let fits = call_passed _ _ c.args.on.passes in
     (rw c.sphere_slot-slot.ensures (sphere_below _ _ c.should_reflect-reflected.result fits.1 small), fits.0.spheres)
 
 pub returns-in_err-triangle : goal.returns-in_err-triangle

@@ -9,20 +9,20 @@ use Rattle.projection_core.proofs.inverse_core.Goals as goal
 
 pub frame_constants-requires : goal.frame_constants-requires
 frame_constants-requires c =
-    (call_passed _ _ c.requires.0).0.frame
+    (call_passed _ _ c.args.on.passes).0.frame
 
 pub returns-in_err-taken : goal.returns-in_err-taken
 returns-in_err-taken c =
     let triangles = rw c.to_polar.ensures at c.take.ensures in
     handed_on _ _ c.from_residual.ensures
-    ∙ inverse_refused ieee _ _ _ _ _ c.requires.0 (sym triangles ∙ ap given c.in_err-taken.was)
+    ∙ inverse_refused ieee _ _ _ _ _ c.args.on.passes (sym triangles ∙ ap given c.in_err-taken.was)
 
 pub returns-in_err-unprojected : goal.returns-in_err-unprojected
 returns-in_err-unprojected c =
     let triangles = rw c.to_polar.ensures at c.take.ensures in
     let answer = rw c.frame_constants.ensures at c.inverse.ensures in
     handed_on _ _ c.from_residual-in_err-unprojected.ensures
-    ∙ inverse_outside ieee _ _ _ _ _ _ c.requires.0
+    ∙ inverse_outside ieee _ _ _ _ _ _ c.args.on.passes
     (sym triangles ∙ ap given c.in_ok-taken.was)
     (sym answer ∙ ap given c.in_err-unprojected.was)
 
@@ -31,6 +31,6 @@ returns c =
     let triangles = rw c.to_polar.ensures at c.take.ensures in
     let answer = rw c.frame_constants.ensures at c.inverse.ensures in
     rw c.to_spherical-answer.ensures
-    (inverse_done ieee _ _ _ _ _ _ c.requires.0
+    (inverse_done ieee _ _ _ _ _ _ c.args.on.passes
     (sym triangles ∙ ap given c.in_ok-taken.was)
     (sym answer ∙ ap given c.in_ok-unprojected.was))

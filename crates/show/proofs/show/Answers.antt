@@ -1,63 +1,35 @@
 -- `show` meets its contract: the part's numbers, and where it lies. Assumes nothing.
-use mathlib.Core.Path.{sym, ap, ◌∙◌}
+use mathlib.Core.Path.{sym, ◌∙◌}
 use native.Mathlib.Omega.{arith}
-use Rattle.answer.specs.Given.{answered}
-use Rattle.answer.specs.Answer.{given}
 use Rattle.show.specs.Show.{part_shown}
-use Rattle.show.specs.declared.StoreKind.TheVariants as kind
-use Rattle.show.proofs.Fits.{slot_fits}
+use Rattle.show.proofs.Fits.{slot_lies, said_filled, no_part}
 use Rattle.show.proofs.show.Goals as goal
 
 pub overflow_mul-slot : goal.overflow_mul-slot
 overflow_mul-slot c =
-    let shown = sym c.slot_state.ensures ∙ ap given c.in-Ok-true.is ∙ ap answered c.in-Ok-true.field-0-test in
-    let fits = slot_fits _ _ kind.Face _ _ (rw c.in-Face.is at shown) in
-    omega (arith, fits.below)
+    let filled = said_filled c.slot_state.result c.slot_state.ensures c.unwrap_or.ensures c.if-unwrap_or.true in
+    rw c.width.ensures (omega (arith, (slot_lies _ _ _ _ _ filled).start))
 
-pub coordinates-requires : goal.coordinates-requires
-coordinates-requires c =
-    let shown = sym c.slot_state.ensures ∙ ap given c.in-Ok-true.is ∙ ap answered c.in-Ok-true.field-0-test in
-    let fits = slot_fits _ _ kind.Face _ _ (rw c.in-Face.is at shown) in
-    omega (arith, fits.faces_fit, fits.spheres_fit, fits.below)
+pub coordinates-requires-then-unwrap_or : goal.coordinates-requires-then-unwrap_or
+coordinates-requires-then-unwrap_or c =
+    let filled = said_filled c.slot_state.result c.slot_state.ensures c.unwrap_or.ensures c.if-unwrap_or.true in
+    rw (c.width.ensures, c.coordinates.ensures, c.store-store.ensures.numbers) (slot_lies _ _ _ _ _ filled).part
 
-pub overflow_mul-slot-in-Sphere : goal.overflow_mul-slot-in-Sphere
-overflow_mul-slot-in-Sphere c =
-    let shown = sym c.slot_state.ensures ∙ ap given c.in-Ok-true.is ∙ ap answered c.in-Ok-true.field-0-test in
-    let fits = slot_fits _ _ kind.Sphere _ _ (rw c.in-Sphere.is at shown) in
-    omega (arith, fits.below)
-
-pub coordinates-requires-in-Sphere : goal.coordinates-requires-in-Sphere
-coordinates-requires-in-Sphere c =
-    let shown = sym c.slot_state.ensures ∙ ap given c.in-Ok-true.is ∙ ap answered c.in-Ok-true.field-0-test in
-    let fits = slot_fits _ _ kind.Sphere _ _ (rw c.in-Sphere.is at shown) in
-    omega (arith, fits.faces_fit, fits.spheres_fit, fits.below)
-
-pub returns-in-Face : goal.returns-in-Face
+pub returns-then-unwrap_or : goal.returns-then-unwrap_or
 unfolding part_shown
-returns-in-Face c =
-    let shown = sym c.slot_state.ensures ∙ ap given c.in-Ok-true.is ∙ ap answered c.in-Ok-true.field-0-test in
+returns-then-unwrap_or c =
+    let filled = said_filled c.slot_state.result c.slot_state.ensures c.unwrap_or.ensures c.if-unwrap_or.true in
+    let part = c.coordinates-then-unwrap_or.ensures in
     record {
-      numbers = simp shown (simp c.in-Face.is c.coordinates.ensures.numbers);
-      place = simp shown (simp c.in-Face.is c.coordinates.ensures.place);
+      numbers = simp filled (rw (c.width.ensures, c.coordinates.ensures, c.store-store.ensures.numbers) at part.numbers);
+      place = simp filled (rw (c.width.ensures, c.store-store.ensures.place) at part.place);
     }
 
-pub returns-in-Sphere : goal.returns-in-Sphere
+pub returns-else-unwrap_or : goal.returns-else-unwrap_or
 unfolding part_shown
-returns-in-Sphere c =
-    let shown = sym c.slot_state.ensures ∙ ap given c.in-Ok-true.is ∙ ap answered c.in-Ok-true.field-0-test in
+returns-else-unwrap_or c =
+    let empty = no_part c.slot_state.result (sym c.unwrap_or.ensures ∙ c.if-unwrap_or.false) in
     record {
-      numbers = simp shown (simp c.in-Sphere.is c.coordinates-in-Sphere.ensures.numbers);
-      place = simp shown (simp c.in-Sphere.is c.coordinates-in-Sphere.ensures.place);
+      numbers = rw (sym c.slot_state.ensures) (sym (empty.numbers _));
+      place = rw (sym c.slot_state.ensures) (sym (empty.place _ _ _ _));
     }
-
-pub returns-in-Ok-false : goal.returns-in-Ok-false
-unfolding part_shown
-returns-in-Ok-false c =
-    let empty = sym c.slot_state.ensures ∙ ap given c.in-Ok-false.is ∙ ap answered c.in-Ok-false.field-0-test in
-    record { numbers = simp empty; place = simp empty }
-
-pub returns-in-Err : goal.returns-in-Err
-unfolding part_shown
-returns-in-Err c =
-    let refused = sym c.slot_state.ensures ∙ ap given c.in-Err.is in
-    record { numbers = simp refused; place = simp refused }

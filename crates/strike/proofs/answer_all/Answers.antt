@@ -4,7 +4,7 @@ use Prim.Native.Nat.{◌≤◌}
 use lib.ListN.{length}
 use lib.Seq.{length-take-le}
 use Rattle.strike_records.specs.Line.{LINE}
-use Rattle.set.specs.Set.{set_of}
+use Rattle.set.specs.Lent.{held}
 use Rattle.strike_reads.specs.Steps.{state_of}
 use Rattle.strike_reads.proofs.Arrived.{ended}
 use Rattle.strike.proofs.answer_all.Goals as goal
@@ -14,8 +14,8 @@ returns-clause-ends g c =
     let a = c.args in
     let q = c.read_all-at in
     let f = c.finish-written in
-    let first = state_of a.stage 0 (set_of a.frame.now a.face_store.now a.sphere_store.now) a.buffer.now in
-    let last = state_of q.result.stage q.result.kept (set_of a.frame.now q.new.face_store q.new.sphere_store) q.new.buffer in
+    let first = state_of a.stage 0 (held a.set.now) a.buffer.now in
+    let last = state_of q.result.stage q.result.kept (held q.new.set) q.new.buffer in
     let roomy : LINE ≤ length q.new.out = omega (arith, c.requires.1.1, q.auto.out) in
     let e =
     ended (length a.buffer.now) (length a.out.now) f.result q.result.kept first last q.new.out f.new.out roomy

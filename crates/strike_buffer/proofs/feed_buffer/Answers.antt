@@ -12,7 +12,7 @@ use Rattle.std.proofs.lemmas.List.{drop-take}
 use Rattle.std.specs.List.{copy_within}
 use Rattle.arithmetic.specs.Arith.{ieee}
 use Rattle.origin.specs.Origins.{ORIGINS}
-use Rattle.set.specs.Set.{set_of}
+use Rattle.set.specs.Lent.{held}
 use Rattle.stores.specs.Slots.{put}
 use Rattle.strike_records.specs.Writes.{Writes, change}
 use Rattle.strike_session.specs.Pieces.{fed, left_over}
@@ -37,25 +37,25 @@ moved b taken filled h =
 pub slice_bounds-feed-end-2 : goal.slice_bounds-feed-end-2
 slice_bounds-feed-end-2 c = sym (length-take-le _ _ (search rules))
 
-pub returns : goal.returns
-returns c =
+pub returns-clause-fed : goal.returns-clause-fed
+returns-clause-fed c =
     let a = c.args in
-    let s = set_of a.frame.now a.face_store.now a.sphere_store.now in
-    let held = a.buffer.now in
+    let s = held a.set.now in
+    let bytes = a.buffer.now in
     let room = length a.out.now in
     let call = c.feed-fed in
     let end = c.min-end in
-    let whole : take end.result held ≡ take a.filled held = ap (λ (n : ℕ). take n held) end.ensures ∙ take_min a.filled held in
-    let f = feeds_as (λ t. fed ieee ORIGINS a.stage t (take a.filled held) room) (ap (λ (l : List ℕ). fed ieee ORIGINS a.stage s l room) whole)
+    let whole : take end.result bytes ≡ take a.filled bytes = ap (λ (n : ℕ). take n bytes) end.ensures ∙ take_min a.filled bytes in
+    let f = feeds_as (λ t. fed ieee ORIGINS a.stage t (take a.filled bytes) room) (ap (λ (l : List ℕ). fed ieee ORIGINS a.stage s l room) whole)
     call.ensures.fed in
     let taken = call.result.taken in
-    let within : taken ≤ min a.filled (length held) = omega (arith, call.ensures.within.0, end.ensures, length-take end.result held) in
-    let copied = c.copy_within.ensures.after ∙ ap (λ (n : ℕ). copy_within held taken n 0) end.ensures ∙ moved held taken a.filled within in
-    let long = left_length held taken a.filled in
-    let kept : Writes (change held c.copy_within.new.self) 0 (left_over held taken a.filled) (end.result - taken) = record { end_is = omega (arith, long, end.ensures); now_is = copied } in
+    let within : taken ≤ min a.filled (length bytes) = omega (arith, call.ensures.within.0, end.ensures, length-take end.result bytes) in
+    let copied = c.copy_within.ensures.after ∙ ap (λ (n : ℕ). copy_within bytes taken n 0) end.ensures ∙ moved bytes taken a.filled within in
+    let long = left_length bytes taken a.filled in
+    let kept : Writes (change bytes c.copy_within.new.self) 0 (left_over bytes taken a.filled) (end.result - taken) = record { end_is = omega (arith, long, end.ensures); now_is = copied } in
     record {
       stage_is = f.stage_is;
-      kept = writes_as kept _ (ap (λ (n : ℕ). drop n (take a.filled held)) f.taken_is);
+      kept = writes_as kept _ (ap (λ (n : ℕ). drop n (take a.filled bytes)) f.taken_is);
       lines = f.lines;
       left = f.left;
       kept_within = omega (arith, end.ensures);

@@ -4,19 +4,20 @@ use Prim.Native.Nat.{min}
 use lib.ListN.{length}
 use Rattle.arithmetic.specs.Arith.{ieee}
 use Rattle.origin.specs.Origins.{ORIGINS}
-use Rattle.set.specs.Set.{Set, set_of}
+use Rattle.set.specs.Set.{Set}
+use Rattle.set.specs.Lent.{held}
 use Rattle.strike_session.specs.Pieces.{answerable, Fed, records_fed}
 use Rattle.strike_session.proofs.Results.{feeds_as}
 use Rattle.strike_feed.proofs.feed_records.Goals as goal
 
-pub returns : goal.returns
+pub returns-clause-fed : goal.returns-clause-fed
 unfolding records_fed
-returns c =
+returns-clause-fed c =
     let a = c.args in
-    let s = set_of a.frame.now a.face_store.now a.sphere_store.now in
+    let s = held a.set.now in
     let count : c.min-count.result ≡ answerable a.left a.input.now (length a.out.now) =
     c.min-count.ensures ∙ ap (min a.left) c.min.ensures in
-    let answered = c.answer_records-written.ensures in
+    let answered = c.answer_records-written.ensures.replies in
     let fed : Set → Fed = λ t. records_fed ieee ORIGINS a.header a.left t a.input.now c.min-count.result in
     feeds_as {f = fed} _ (ap (records_fed ieee ORIGINS a.header a.left s a.input.now) count)
     (record { stage_is = refl; taken_is = refl; lines = answered.lines; left = answered.left })

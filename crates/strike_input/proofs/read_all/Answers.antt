@@ -10,7 +10,7 @@ use lib.Seq.{length-take-le}
 use Rattle.std.specs.Io.KnownBytes.{Consumes, Appends}
 use Rattle.std.proofs.KnownBytes.{Consumes-nil, Appends-nil}
 use Rattle.strike_records.specs.Line.{LINE}
-use Rattle.set.specs.Set.{set_of}
+use Rattle.set.specs.Lent.{held}
 use Rattle.std.specs.declared.option.Option.{Option}
 use Rattle.strike_reads.specs.Steps.{State, state_of, Read, Stepped, Passes, step_bytes, step_lines, none, bytes_of, lines_of}
 use Rattle.strike_reads.proofs.Counted.{Counted, some_left, counted_first, counted_on}
@@ -22,20 +22,22 @@ fewer : (n i : ℕ) → n - i - 1 ≡ n - (i + 1)
 fewer n i = omega arith
 
 -- a step behind the reads before it, of which no lines were lost
-module _ (a b c x y z : Option (List ℕ)) (space room : ℕ) (s t u : State) (before out : List ℕ) (ended lost lost' : Bool) where
-  one_more : length before ≡ room → lost ≡ false
-      → (r : Read space room s t) × Passes a b x y (bytes_of r) (lines_of r) lost
-      → (p : Stepped space t u before out ended lost') × Passes b c y z (step_bytes p) (step_lines p) lost'
-      → (r : Read space room s u) × Passes a c x z (bytes_of r) (lines_of r) lost'
-  one_more same unlost reads step =
-      let next = stepped_on space room s t u before out same reads.0 ended lost' step.0 in
-      let both = passes_on a b c x y z (bytes_of reads.0) (step_bytes step.0) (lines_of reads.0) (step_lines step.0) lost lost' unlost reads.1 step.1 in (
-        next.0,
-        record {
-          taken = subst (Consumes a c) (sym next.1) both.taken;
-          given = λ e. subst (Appends x z) (sym next.2) (both.given e);
-        },
-      )
+one_more :
+    {a b c x y z : Option (List ℕ)} {here space room : ℕ} {s t u : State} {before out : List ℕ} {ended lost lost' : Bool}
+    → here ≡ space → length before ≡ room → lost ≡ false
+    → (r : Read space room s t) × Passes a b x y (bytes_of r) (lines_of r) lost
+    → (p : Stepped here t u before out ended lost') × Passes b c y z (step_bytes p) (step_lines p) lost'
+    → (r : Read space room s u) × Passes a c x z (bytes_of r) (lines_of r) lost'
+one_more {a = a} {c = c} {x = x} {z = z} same roomy unlost reads stepped =
+    let step = rw same at stepped in
+    let next = stepped_on _ _ _ _ _ _ _ roomy reads.0 _ _ step.0 in
+    let both = passes_on _ _ _ _ _ _ _ _ _ _ _ _ unlost reads.1 step.1 in (
+      next.0,
+      record {
+        taken = subst (Consumes a c) (sym next.1) both.taken;
+        given = λ e. subst (Appends x z) (sym next.2) (both.given e);
+      },
+    )
 
 pub loop-read-init : goal.loop-read-init
 loop-read-init g c = (
@@ -45,22 +47,16 @@ loop-read-init g c = (
   (none, record { taken = Consumes-nil _; given = λ e. Appends-nil _ }),
   refl,
   counted_first c.args.stage c.requires.0,
+  search,
 )
 
 pub loop-read-preserved : goal.loop-read-preserved
 loop-read-preserved g c =
-    let a = c.args in
     let i = c.loop-read in
     let inv = i.invariant in
     let q = c.step-at in
-    let first = state_of a.stage 0 (set_of a.frame.now a.face_store.now a.sphere_store.now) a.buffer.now in
-    let t = state_of i.at.stage i.at.kept (set_of a.frame.now i.face_store i.sphere_store) i.buffer in
-    let u = state_of q.result.stage q.result.kept (set_of a.frame.now q.new.face_store q.new.sphere_store) q.new.buffer in
-    let unread = g.R.Read.remaining in
-    let written = g.W.Write.contents in
-    let stepped =
-    subst (λ (n : ℕ). (p : Stepped n t u i.out q.new.out q.result.ended q.result.lost)
-    × Passes (unread i.from) (unread q.new.from) (written i.to) (written q.new.to) (step_bytes p) (step_lines p) q.result.lost) inv.0 q.ensures.stepped in
+    let t = state_of i.at.stage i.at.kept (held i.set) i.buffer in
+    let u = state_of q.result.stage q.result.kept (held q.new.set) q.new.buffer in
     let left = 42949672960 - i._read in
     let lasting = subst (Counted left i.at.stage) (sym (length-take-le i.at.kept i.buffer inv.2)) inv.5 in
     let roomy : (length i.buffer / 10 + 1) * LINE ≤ length i.out = omega (arith, c.requires.1.1, inv.0, inv.1) in
@@ -68,31 +64,21 @@ loop-read-preserved g c =
       search rules,
       search rules,
       q.ensures.held,
-      one_more (unread a.from.now) (unread i.from) (unread q.new.from) (written a.to.now) (written i.to) (written q.new.to)
-          (length a.buffer.now) (length a.out.now) first t u i.out q.new.out q.result.ended i.at.lost q.result.lost inv.1 inv.4 inv.3 stepped,
-      none_lost q.result.ended q.result.lost stepped.0 c.if-at.false,
+      one_more inv.0 inv.1 inv.4 inv.3 q.ensures.stepped,
+      none_lost q.result.ended q.result.lost q.ensures.stepped.0 c.if-at.false,
       subst (λ (n : ℕ). Counted n q.result.stage q.result.kept) (fewer 42949672960 i._read)
           (subst (Counted (left - 1) q.result.stage) (length-take-le q.result.kept q.new.buffer q.ensures.held) lasts),
+      search,
     )
 
 pub returns-then-at : goal.returns-then-at
 returns-then-at g c =
-    let a = c.args in
-    let i = c.loop-read in
-    let inv = i.invariant in
+    let inv = c.loop-read.invariant in
     let q = c.step-at in
-    let first = state_of a.stage 0 (set_of a.frame.now a.face_store.now a.sphere_store.now) a.buffer.now in
-    let t = state_of i.at.stage i.at.kept (set_of a.frame.now i.face_store i.sphere_store) i.buffer in
-    let u = state_of q.result.stage q.result.kept (set_of a.frame.now q.new.face_store q.new.sphere_store) q.new.buffer in
-    let unread = g.R.Read.remaining in
-    let written = g.W.Write.contents in
-    let stepped =
-    subst (λ (n : ℕ). (p : Stepped n t u i.out q.new.out q.result.ended q.result.lost)
-    × Passes (unread i.from) (unread q.new.from) (written i.to) (written q.new.to) (step_bytes p) (step_lines p) q.result.lost) inv.0 q.ensures.stepped in
     record {
+      same = search;
       ended = c.if-at.true;
-      read = one_more (unread a.from.now) (unread i.from) (unread q.new.from) (written a.to.now) (written i.to) (written q.new.to)
-          (length a.buffer.now) (length a.out.now) first t u i.out q.new.out q.result.ended i.at.lost q.result.lost inv.1 inv.4 inv.3 stepped;
+      read = one_more inv.0 inv.1 inv.4 inv.3 q.ensures.stepped;
       held = q.ensures.held;
     }
 

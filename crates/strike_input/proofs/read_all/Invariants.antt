@@ -2,7 +2,7 @@
 -- and the reads that are left last for the bytes that the session can still take.
 use Prim.Native.Nat.{◌-◌}
 use Rattle.std.proofs.Common.{◌≡◌, ◌≤◌, false, length}
-use Rattle.set.specs.Set.{set_of}
+use Rattle.set.specs.Lent.{SameBuffers, held}
 use Rattle.strike_reads.specs.Steps.{state_of, Read, Passes, bytes_of, lines_of}
 use Rattle.strike_reads.proofs.Counted.{Counted}
 use Rattle.strike_input.proofs.read_all.Given as goal
@@ -13,9 +13,10 @@ invariant-loop-read g l =
     × (length l.out ≡ length l.initial.out)
     × (l.at.kept ≤ length l.buffer)
     × ((r : Read (length l.initial.buffer) (length l.initial.out)
-    (state_of l.fn.stage 0 (set_of l.initial.frame l.initial.face_store l.initial.sphere_store) l.initial.buffer)
-    (state_of l.at.stage l.at.kept (set_of l.frame l.face_store l.sphere_store) l.buffer))
+    (state_of l.fn.stage 0 (held l.fn.set) l.initial.buffer)
+    (state_of l.at.stage l.at.kept (held l.set) l.buffer))
     × Passes (g.R.Read.remaining l.initial.from) (g.R.Read.remaining l.from) (g.W.Write.contents l.initial.to) (g.W.Write.contents l.to)
     (bytes_of r) (lines_of r) l.at.lost)
     × (l.at.lost ≡ false)
     × Counted (42949672960 - l._read) l.at.stage l.at.kept
+    × SameBuffers l.fn.set l.set

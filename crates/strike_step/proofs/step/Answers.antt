@@ -8,7 +8,7 @@ use native.Mathlib.Omega.{arith}
 use lib.ListN.{length, take, drop}
 use Rattle.std.specs.Io.KnownBytes.{Consumes, Appends}
 use Rattle.std.proofs.KnownBytes.{Consumes-nil, Appends-nil}
-use Rattle.set.specs.Set.{set_of}
+use Rattle.set.specs.Lent.{held}
 use Rattle.strike_session.specs.Pieces.{over}
 use Rattle.strike_reads.specs.Steps.{rests, feeds}
 use Rattle.strike_reads.proofs.Arrived.{arrived, arrived_length, next_is, lines_are, lines_first}
@@ -21,7 +21,7 @@ pub returns-then-n-eq0-clause-stepped : goal.returns-then-n-eq0-clause-stepped
 returns-then-n-eq0-clause-stepped g c =
     let a = c.args in
     let r = c.read_behind-n in
-    let same = ap (λ (l : List ℕ). record { stage = a.at.stage; set = set_of a.frame.now a.face_store.now a.sphere_store.now; kept = l }) r.ensures.buffer_unchanged in
+    let same = ap (λ (l : List ℕ). record { stage = a.at.stage; set = held a.set.now; kept = l }) r.ensures.buffer_unchanged in
     let none = subst (λ (n : ℕ). Consumes (g.R.Read.remaining a.from.now) (g.R.Read.remaining r.new.from) (take n (drop a.at.kept r.new.buffer))) c.if-n-eq0.true r.ensures.bytes in
     (rests same refl, record { taken = none; given = λ e. Appends-nil _ })
 
@@ -35,12 +35,9 @@ returns-clause-stepped g c =
     let some : 0 < length piece = omega (arith, many, c.if-n-eq0.false) in
     let within : length piece ≤ length a.buffer.now = omega (arith, many, r.ensures.result_in_bounds, r.auto.buffer) in
     let goes : over a.at.stage ≡ false = sym c.is_over.ensures ∙ c.if-is_over.false in
-    let before = set_of a.frame.now a.face_store.now a.sphere_store.now in
-    let after = set_of a.frame.now t.new.face_store t.new.sphere_store in
     let same = r.ensures.buffer_unchanged in
-    let is = next_is a.at.stage before after a.at.kept r.result a.buffer.now r.new.buffer t.new.buffer a.out.now t.new.out t.result same t.ensures in
-    let lines = lines_are a.at.stage before after a.at.kept r.result a.buffer.now r.new.buffer t.new.buffer a.out.now t.new.out t.result same t.ensures in
-    let first = lines_first a.at.stage before after a.at.kept r.result a.buffer.now r.new.buffer t.new.buffer a.out.now t.new.out t.result same t.ensures in (
-      feeds piece some within goes is lines c.loses-lost.result,
+    let fed = t.ensures.fed in
+    let first = lines_first a.at.kept r.result a.buffer.now same fed in (
+      feeds piece some within goes (next_is a.at.kept r.result a.buffer.now same fed) (lines_are a.at.kept r.result a.buffer.now same fed) c.loses-lost.result,
       record { taken = r.ensures.bytes; given = λ e. subst (Appends (g.W.Write.contents a.to.now) (g.W.Write.contents c.loses-lost.new.to)) first (c.loses-lost.ensures e) },
     )

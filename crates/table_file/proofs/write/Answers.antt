@@ -21,12 +21,12 @@ loop-i-preserved c =
     let v = c.loop-i in
     let table = c.args.table.now in
     let at = 5 + 8 * v.i in
-    let on = written_on table v.bytes (drop (at + 8) v.bytes) v.i at (omega (arith, c.requires.0)) refl (omega arith) v.invariant.1 in
+    let on = written_on table v.bytes (drop (at + 8) v.bytes) v.i at (omega arith) refl (omega arith) v.invariant.1 in
     (c.write_double.auto.bytes ∙ v.invariant.0, ap (take (5 + 8 * (v.i + 1))) c.write_double.ensures ∙ on)
 
 pub returns : goal.returns
 unfolding file_of
 returns c =
     let v = c.loop-i in
-    let all = take_all v.i c.args.table.now (omega (arith, c.requires.0)) in
+    let all = take_all v.i c.args.table.now (omega arith) in
     sym (take_all (5 + 8 * v.i) v.bytes (omega arith)) ∙ v.invariant.1 ∙ ap (λ (t : List Float). HEADER ++ bytes_of_all t) all

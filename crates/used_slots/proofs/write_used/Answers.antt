@@ -8,22 +8,22 @@ use Rattle.used_slots.proofs.write_used.Goals as goal
 
 pub write_faces-requires : goal.write_faces-requires
 write_faces-requires c =
-    let there = has_slots_lem _ c.args.used (sym c.has_slots.ensures ∙ c.if-has_slots.true) in
+    let there = has_slots_lem _ c.args.used (sym (rw c.view.ensures at c.has_slots.ensures) ∙ c.if-has_slots.true) in
     (there.1, (call_passed _ _ there.0).0.faces)
 
 pub write_sphere_slot-requires : goal.write_sphere_slot-requires
 write_sphere_slot-requires c =
-    let there = has_slots_lem _ c.args.used (sym c.has_slots.ensures ∙ c.if-has_slots.true) in
+    let there = has_slots_lem _ c.args.used (sym (rw c.view.ensures at c.has_slots.ensures) ∙ c.if-has_slots.true) in
     let fits = call_passed _ _ there.0 in
     (rw c.sphere_slot-slot.ensures (sphere_below _ _ c.args.used.reflected fits.1 there.1), fits.0.spheres)
 
-pub returns-then-has_slots : goal.returns-then-has_slots
+pub returns-then-has_slots-clause-written : goal.returns-then-has_slots-clause-written
 unfolding sphere_written
-returns-then-has_slots c =
-    let there = has_slots_lem _ c.args.used (sym c.has_slots.ensures ∙ c.if-has_slots.true) in
+returns-then-has_slots-clause-written c =
+    let there = has_slots_lem _ c.args.used (sym (rw c.view.ensures at c.has_slots.ensures) ∙ c.if-has_slots.true) in
     let written = written_there _ c.args.used ieee there.0 there.1 in
     rw (written, c.write_sphere_slot.ensures, c.sphere_slot-slot.ensures, c.write_faces.ensures)
 
-pub returns-else-has_slots : goal.returns-else-has_slots
+pub returns-else-has_slots-clause-written : goal.returns-else-has_slots-clause-written
 unfolding written_if_there
-returns-else-has_slots c = rw (sym c.has_slots.ensures ∙ c.if-has_slots.false)
+returns-else-has_slots-clause-written c = rw (sym (rw c.view.ensures at c.has_slots.ensures) ∙ c.if-has_slots.false)

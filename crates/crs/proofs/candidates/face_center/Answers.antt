@@ -9,4 +9,4 @@ returns c = rw (c.to_cartesian.ensures, c.origin_in-origin.ensures)
 
 pub to_cartesian-requires : goal.to_cartesian-requires
 to_cartesian-requires c =
-    rw c.origin_in-origin.ensures (small_axis _ (sound_small c.args.table.now c.requires.0 _ c.requires.1))
+    rw c.origin_in-origin.ensures (small_axis _ (sound_small c.args.table.rows.now c.args.table.sound _ c.requires))

@@ -16,5 +16,5 @@ returns c = rw (c.around.ensures, c.origin_in.ensures, angles.midpoint)
 pub around-requires : goal.around-requires
 unfolding beyond of_bits
 around-requires c =
-    let o = sound_small c.args.table.now c.requires.0 (c.args.k / 5) (omega arith) in
+    let o = sound_small c.args.table.rows.now c.args.table.sound (c.args.k / 5) (omega arith) in
     (omega arith, rw c.origin_in.ensures (small_angle _ o), refl)

@@ -1,5 +1,5 @@
 -- `frame::add` meets its contract: a row that is near is earlier, and otherwise the lookup was refused. Assumes nothing.
-use mathlib.Core.Path.{◌≡◌, refl, sym, ap, ◌∙◌}
+use mathlib.Core.Path.{◌≡◌, refl, sym, ◌∙◌}
 use mathlib.Core.Bool.{true, false, true≢false}
 use Prim.Native.Nat.{ℕ}
 use native.Mathlib.Numerals.{add-one, add-two}

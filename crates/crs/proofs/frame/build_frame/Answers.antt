@@ -22,7 +22,7 @@ loop-k-preserved c =
     let e = rw c.candidate.ensures at c.add-used.ensures.rows in (
       omega arith,
       omega (arith, c.add-used.auto.rows),
-      rw e (sym (next_candidate ieee a.table.now 132 v.k (take v.used v.rows) (omega arith)) ∙ v.invariant.2),
+      rw e (sym (next_candidate ieee a.table.rows.now 132 v.k (take v.used v.rows) (omega arith)) ∙ v.invariant.2),
       c.add-used.ensures.behind ∙ drop_later v.rows start v.used c.add-used.result c.add-used.ensures.used.0 v.invariant.3,
     )
 

@@ -10,5 +10,5 @@ use Rattle.crs.proofs.frame.build_frame.Given as goal
 abbrev pub invariant-loop-k : goal.invariant-loop-k
 invariant-loop-k l = (l.used ≤ 3 * l.k)
     × (l.used ≤ length l.rows)
-    × (add_rows ieee l.table (132 - l.k) l.k (take l.used l.rows) ≡ frame_rows ieee l.table)
+    × (add_rows ieee l.table.rows.now (132 - l.k) l.k (take l.used l.rows) ≡ frame_rows ieee l.table.rows.now)
     × (drop l.used l.rows ≡ drop l.used l.initial.rows)

@@ -1,11 +1,10 @@
 -- `frame::get_vertex` meets its contract: a row that is near is the first, and after one that isn't the rest decides. Assumes nothing.
-use mathlib.Core.Path.{sym, ap, ◌∙◌}
+use mathlib.Core.Path.{sym, ◌∙◌}
 use Prim.Native.Nat.{◌-◌}
 use native.Mathlib.Omega.{arith}
 use lib.ListN.{length, drop}
 use Rattle.std.proofs.lemmas.List.{take_all, length-drop}
 use Rattle.arithmetic.specs.Arith.{ieee}
-use Rattle.crs.specs.Frame.{find_vertex}
 use Rattle.crs.proofs.Search.{missed}
 use Rattle.crs.proofs.frame.get_vertex.Goals as goal
 

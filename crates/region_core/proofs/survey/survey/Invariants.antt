@@ -3,12 +3,14 @@
 use mathlib.Core.Path.{◌≡◌}
 use lib.ListN.{length, take}
 use Rattle.arithmetic.specs.Arith.{ieee}
-use Rattle.set.specs.Set.{set_of}
-use Rattle.region_work.specs.Parts.{table_of, nothing_seen, survey_of}
+use Rattle.set.specs.Lent.{seen}
+use Rattle.region_work.specs.Parts.{nothing_seen, survey_of}
 use Rattle.region_work.proofs.Loops.{going}
 use Rattle.region_core.proofs.survey.survey.Given as goal
 
 abbrev pub invariant-loop-i : goal.invariant-loop-i
-invariant-loop-i l = (length l.points ≡ 256)
-    × (going ieee (table_of l.table) (set_of l.frame l.face_store l.sphere_store) l.seen l.points l.i (take l.n l.positions)
-    ≡ survey_of ieee (table_of l.table) (set_of l.frame l.face_store l.sphere_store) nothing_seen (take l.n l.positions))
+invariant-loop-i g l =
+    let table = g.O.Origins.table l.origins in
+    (length l.points ≡ 256)
+    × (going ieee table (seen l.set) l.seen l.points l.i (take l.n l.positions)
+    ≡ survey_of ieee table (seen l.set) nothing_seen (take l.n l.positions))

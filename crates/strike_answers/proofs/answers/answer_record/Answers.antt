@@ -4,34 +4,31 @@ use Rattle.answer.specs.Answer.{given}
 use Rattle.answer.specs.Given.{answered}
 use Rattle.arithmetic.specs.Arith.{ieee}
 use Rattle.origin.specs.Origins.{ORIGINS}
-use Rattle.set.specs.Set.{set_of}
+use Rattle.set.specs.Lent.{held}
 use Rattle.strike_records.specs.Line.{refusal_line}
 use Rattle.strike_answers.specs.Reply.{Reply, reply_to, reply}
 use Rattle.strike_records.proofs.Written.{writes_as}
 use Rattle.strike_answers.proofs.Replies.{replies_as}
 use Rattle.strike_answers.proofs.answers.answer_record.Goals as goal
 
-pub returns-in-Ok-Place : goal.returns-in-Ok-Place
+pub returns-in-Ok-Place-clause-replies : goal.returns-in-Ok-Place-clause-replies
 unfolding reply
-returns-in-Ok-Place c =
-    let a = c.args in
-    let s = set_of a.frame.now a.face_store.now a.sphere_store.now in
+returns-in-Ok-Place-clause-replies c =
+    let s = held c.args.set.now in
     let asked = sym c.decode.ensures ∙ ap given c.in-Ok-Place.is ∙ ap answered c.in-Ok-Place.field-0-is in
-    replies_as _ (ap (reply_to ieee ORIGINS s) (sym asked)) c.answer_place.ensures
+    replies_as _ (ap (reply_to ieee ORIGINS s) (sym asked)) c.answer_place.ensures.replies
 
-pub returns-in-Ok-Unplace : goal.returns-in-Ok-Unplace
+pub returns-in-Ok-Unplace-clause-replies : goal.returns-in-Ok-Unplace-clause-replies
 unfolding reply
-returns-in-Ok-Unplace c =
-    let a = c.args in
-    let s = set_of a.frame.now a.face_store.now a.sphere_store.now in
+returns-in-Ok-Unplace-clause-replies c =
+    let s = held c.args.set.now in
     let asked = sym c.decode.ensures ∙ ap given c.in-Ok-Unplace.is ∙ ap answered c.in-Ok-Unplace.field-0-is in
-    replies_as _ (ap (reply_to ieee ORIGINS s) (sym asked)) c.answer_unplace.ensures
+    replies_as _ (ap (reply_to ieee ORIGINS s) (sym asked)) c.answer_unplace.ensures.replies
 
-pub returns-in-Err : goal.returns-in-Err
+pub returns-in-Err-clause-replies : goal.returns-in-Err-clause-replies
 unfolding reply
-returns-in-Err c =
-    let a = c.args in
-    let s = set_of a.frame.now a.face_store.now a.sphere_store.now in
+returns-in-Err-clause-replies c =
+    let s = held c.args.set.now in
     let asked = sym c.decode.ensures ∙ ap given c.in-Err.is in
     let same = ap (reply_to ieee ORIGINS s) (sym asked) in
     let number = ap refusal_line c.number.ensures in

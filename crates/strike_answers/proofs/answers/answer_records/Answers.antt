@@ -4,7 +4,7 @@ use native.Mathlib.Omega.{arith}
 use lib.ListN.{length-take, length-drop}
 use Rattle.arithmetic.specs.Arith.{ieee}
 use Rattle.origin.specs.Origins.{ORIGINS}
-use Rattle.set.specs.Set.{set_of}
+use Rattle.set.specs.Lent.{held}
 use Rattle.strike_answers.specs.Reply.{replies}
 use Rattle.strike_answers.proofs.Replies.{lines_fit, replies_more, part_is}
 use Rattle.strike_records.proofs.Written.{writes_none}
@@ -12,13 +12,13 @@ use Rattle.strike_answers.proofs.answers.answer_records.Goals as goal
 
 pub loop-i-init : goal.loop-i-init
 unfolding replies
-loop-i-init c = (record { lines = writes_none _; left = refl }, refl, refl, refl)
+loop-i-init c = (record { lines = writes_none _; left = refl }, refl, search)
 
 pub answer_record-written-requires : goal.answer_record-written-requires
 answer_record-written-requires c =
     let a = c.args in
     let l = c.loop-i in
-    let lines = lines_fit ieee ORIGINS (set_of a.frame.now a.face_store.now a.sphere_store.now) a.input.now l.i in
+    let lines = lines_fit ieee ORIGINS (held a.set.now) a.input.now l.i in
     (simp (length-take, length-drop) (omega arith), omega (arith, lines, l.invariant.0.lines.end_is, l.invariant.1))
 
 pub loop-i-preserved : goal.loop-i-preserved
@@ -26,11 +26,10 @@ loop-i-preserved c =
     let a = c.args in
     let l = c.loop-i in
     let call = c.answer_record-written in
-    let s = set_of a.frame.now a.face_store.now a.sphere_store.now in
+    let s = held a.set.now in
     let fit = lines_fit ieee ORIGINS s a.input.now l.i in
     let part = part_is a.input.now l.i in (
-      replies_more ieee ORIGINS s a.input.now l.i part (omega (arith, fit)) l.invariant.0 call.ensures,
+      replies_more ieee ORIGINS s a.input.now l.i part (omega (arith, fit)) l.invariant.0 call.ensures.replies,
       call.auto.out ∙ l.invariant.1,
-      call.auto.face_store ∙ l.invariant.2,
-      call.auto.sphere_store ∙ l.invariant.3,
+      search,
     )

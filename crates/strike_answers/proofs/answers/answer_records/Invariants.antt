@@ -3,7 +3,7 @@ use mathlib.Core.Path.{◌≡◌}
 use lib.ListN.{length}
 use Rattle.arithmetic.specs.Arith.{ieee}
 use Rattle.origin.specs.Origins.{ORIGINS}
-use Rattle.set.specs.Set.{set_of}
+use Rattle.set.specs.Lent.{SameBuffers, between}
 use Rattle.strike_answers.specs.Reply.{replies}
 use Rattle.strike_records.specs.Writes.{change}
 use Rattle.strike_answers.specs.Results.{Replies}
@@ -11,8 +11,6 @@ use Rattle.strike_answers.proofs.answers.answer_records.Given as goal
 
 abbrev pub invariant-loop-i : goal.invariant-loop-i
 invariant-loop-i l =
-    let s = change (set_of l.frame l.initial.face_store l.initial.sphere_store) (set_of l.frame l.face_store l.sphere_store) in
-    Replies s (change l.initial.out l.out) 0 l.written (λ s. replies ieee ORIGINS s l.input l.i)
+    Replies (between l.fn.set l.set) (change l.initial.out l.out) 0 l.written (λ s. replies ieee ORIGINS s l.input l.i)
     × (length l.out ≡ length l.initial.out)
-    × (length l.face_store ≡ length l.initial.face_store)
-    × (length l.sphere_store ≡ length l.initial.sphere_store)
+    × SameBuffers l.fn.set l.set

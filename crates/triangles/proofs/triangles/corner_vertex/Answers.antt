@@ -6,7 +6,7 @@ use Rattle.triangles.proofs.triangles.corner_vertex.Goals as goal
 pub to_cartesian-rotated-requires : goal.to_cartesian-rotated-requires
 to_cartesian-rotated-requires c =
     rw (c.inverse.ensures, c.to_polar-polar.ensures)
-    (corner_inside c.args.corner c.args.origin.angle.0 c.requires)
+    (corner_inside c.args.corner c.args.origin.origin.angle.0 c.args.origin.small)
 
 pub returns : goal.returns
 unfolding corner_vertex
