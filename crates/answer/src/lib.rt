@@ -85,14 +85,15 @@ pub fn status<T: Drop>(outcome: Result<T, Refusal>) -> u8
 }
 
 // Neither infinite nor a NaN.
+#[tactic(auto, using(crate::proofs::Finite::finite_is))]
 pub fn is_finite(x: f64) -> bool
     ensures { result ≡ is_finite x }
 {
-    let top = f64::from_bits(0x7ff0_0000_0000_0000);
-    x < top && -top < x
+    x.is_finite()
 }
 
 // 5, then 6: x is finite and lies in the range from -limit to limit, ends included.
+#[tactic(auto, unfolding(crate::specs::Number::check_number))]
 pub fn check_number(x: f64, limit: f64) -> Result<(), Refusal>
     ensures { given result ≡ check_number x limit }
 {
@@ -106,12 +107,13 @@ pub fn check_number(x: f64, limit: f64) -> Result<(), Refusal>
 }
 
 // The bits of x; 7ff8000000000000 for every NaN. f64::to_bits is not defined there, so a NaN is met before it.
+#[tactic(auto, using(crate::proofs::NanBits::nan_written))]
 pub fn bits(x: f64) -> u64
     ensures { result ≡ to_bits binary64 x }
 {
-    if x != x {
+    if x.is_nan() {
         0x7ff8_0000_0000_0000
     } else {
-        f64::to_bits(x)
+        x.to_bits()
     }
 }

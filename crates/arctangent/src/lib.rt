@@ -9,10 +9,7 @@ ghost use Rattle.elementary.specs.Arctangent.{core, atan_size, atan, tangent, at
 
 use arctangent_core::{AngleAndRoot, core, core_and_sqrt, core_both};
 use float_parts::signs::{abs, negative};
-
-const PI: f64 = 3.141592653589793;
-
-const FRAC_PI_2: f64 = 1.5707963267948966;
+use std::f64::consts::{FRAC_PI_2, PI};
 
 // The angle of a tangent that is not negative.
 #[tactic(auto, unfolding(elementary::specs::Arctangent::atan_size))]
@@ -99,7 +96,7 @@ pub fn atan2_both(y: f64, x: f64, v: f64, u: f64) -> (f64, f64)
     (atan2_from(y, x, angles.0), atan2_from(v, u, angles.1))
 }
 
-// The angle of the point (x, y), and beside its first root that of z.
+// The angle of the point (x, y), and beside its first root that of z: two roots at once take about the time of one.
 pub fn atan2_and_sqrt(y: f64, x: f64, z: f64) -> AngleAndRoot
     ensures { (result.angle ≡ atan2 ieee y x) × (result.root ≡ sqrt z) }
 {

@@ -82,7 +82,7 @@ pub struct AngleAndRoot {
     pub root: f64,
 }
 
-// The angle, and beside its first root that of x.
+// The angle, and beside its first root that of x: two roots at once take about the time of one.
 #[tactic(auto, unfolding(elementary::specs::Arctangent::core, elementary::specs::Arctangent::halved))]
 pub fn core_and_sqrt(t: f64, x: f64) -> AngleAndRoot
     ensures { (result.angle ≡ core ieee t) × (result.root ≡ sqrt x) }

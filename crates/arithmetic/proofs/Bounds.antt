@@ -1,5 +1,6 @@
--- Bounds on sizes: `Within x B` goes through negation, rounding, products, sums, differences, quotients and remainders. The bound of a result is the same operation on
--- the bounds, rounded as the result is, so for constants it is found by computation. And every finite value of binary64 is within the largest one. Assumes nothing.
+-- Bounds on sizes: `Within x B` goes through negation, rounding, products, sums, differences, quotients and remainders. The bound of a result is the
+-- same operation on the bounds, rounded as the result is, so for constants it is found by computation. And every finite value of binary64 is within
+-- the largest one. Assumes nothing.
 use mathlib.Core.Path.{◌≡◌, refl, sym, ap, ◌∙◌}
 use Prim.Native.Nat.{ℕ, zero, suc, ◌+◌, ◌-◌, ◌*◌, ◌%◌, ◌^◌, ◌≤◌, ◌<◌}
 use native.Mathlib.Nat.{le_refl, le_trans, le_of_eq, le_of_lt, le_antisymm, lt_of_lt_of_le, lt_irrefl, not-le_of_lt, mul_assoc, mul-le-mul, mul-le-mul_right, mul-lt-mul_of_pos_right, lt_of_mul-lt-mul_right, eq_of_mul-eq-mul_right, mul-mul-mul_comm, mul-pos, mod-lt, zero-lt-suc}
@@ -43,7 +44,8 @@ own (fin true m e) p f = absurd p
 own (fin false m e) p f = within (le_refl (m * up e * down e))
 
 pub wider : {x B C : Float} → Within x B → Within B C → Within x C
-wider (within {m = m} {n = n} {e = e} {d = d} h) (within {n = k} {d = g} l) = within (through (m * up e) (n * up d) (k * up g) (down e) (down d) (down g) (down_pos d) h l)
+wider (within {m = m} {n = n} {e = e} {d = d} h) (within {n = k} {d = g} l) =
+    within (through (m * up e) (n * up d) (k * up g) (down e) (down d) (down g) (down_pos d) h l)
 
 -- by any fractions ±a / c and b / d that the two equal
 pub of_values : (x y : Float) (s : Bool) (a c b d : ℕ) → 0 < c → 0 < d → HasValue x s a c → HasValue y false b d → a * d ≤ b * c → Within x y
@@ -111,7 +113,8 @@ within_le (within {s} {m} {n} {e} {d} h) = at s
     alike p f = or_else (ltb a b) (p && true) (λ t. and_i p true (f (le_antisymm h (nltb→le a b t))) tt)
 
     apart : (a b : ℕ) → T (ltb 0 (a + b) || (eqb a b && eqb a 0))
-    apart a b = or_else (ltb 0 (a + b)) (eqb a b && eqb a 0) (λ t. let z = nltb→le 0 (a + b) t in and_i (eqb a b) (eqb a 0) (eq→eqb {a = a} {b = b} (omega arith)) (eq→eqb {a = a} {b = 0} (omega arith)))
+    apart a b = or_else (ltb 0 (a + b)) (eqb a b && eqb a 0)
+        (λ t. let z = nltb→le 0 (a + b) t in and_i (eqb a b) (eqb a 0) (eq→eqb {a = a} {b = b} (omega arith)) (eq→eqb {a = a} {b = 0} (omega arith)))
 
     at : (t : Bool) → T (le (fin true n d) (fin t m e)) × T (le (fin t m e) (fin false n d))
     at true = (alike (eqb b a) (λ z. eq→eqb (sym z)), apart a b)
@@ -138,7 +141,8 @@ within_lt (fin false k g) (within {s} {m} {n} {e} {d} h) l = at s
     less : a < b
     less =
         let D = down d in
-        lt_of_mul-lt-mul_right D (chain (m * up e) (n * up d) (k * up g) (down e) D (down g) h (mul-lt-mul_of_pos_right (ltb→lt (n * up d * down g) (k * up g * D) l) (down_pos e)))
+        lt_of_mul-lt-mul_right D (chain (m * up e) (n * up d) (k * up g) (down e) D (down g) h
+        (mul-lt-mul_of_pos_right (ltb→lt (n * up d * down g) (k * up g * D) l) (down_pos e)))
 
     at : (t : Bool) → T (lt (fin true k g) (fin t m e)) × T (lt (fin t m e) (fin false k g))
     at true = (lt→ltb a b less, lt→ltb 0 (a + b) (omega (arith, less)))
@@ -163,7 +167,8 @@ pub round_clear : (f : Format) (a c : ℕ) → T (clear (round f false a c))
 round_clear f a c = rw round_is (units_clear f (kept (prec f) (a * 2 ^ low f) c) (drop (prec f) (a * 2 ^ low f) c))
 
 -- a fraction that is no larger than b / d, with either sign
-pub round_within : (f : Format) (s : Bool) (a c b d : ℕ) → 0 < c → 0 < d → a * d ≤ b * c → T (finite (round f false b d)) → Within (round f s a c) (round f false b d)
+pub round_within : (f : Format) (s : Bool) (a c b d : ℕ) → 0 < c → 0 < d → a * d ≤ b * c → T (finite (round f false b d))
+    → Within (round f s a c) (round f false b d)
 round_within f s a c b d C D h F = at s
   where
     plain : Within (round f false a c) (round f false b d)
@@ -173,7 +178,8 @@ round_within f s a c b d C D h F = at s
     at false = plain
     at true = rw (← neg_round f false a c) (neg_within plain)
 
-sum_within : (f : Format) (s t : Bool) (a b c n d : ℕ) → 0 < c → 0 < d → (a + b) * d ≤ n * c → T (finite (round f false n d)) → Within (sum f s a t b c) (round f false n d)
+sum_within : (f : Format) (s t : Bool) (a b c n d : ℕ) → 0 < c → 0 < d → (a + b) * d ≤ n * c → T (finite (round f false n d))
+    → Within (sum f s a t b c) (round f false n d)
 unfolding sum
 sum_within f s t a b c n d C D h F = go (beq s t) (ltb a b) (s && ltb b a)
   where
@@ -188,13 +194,16 @@ module _ (f : Format) where
   pub mul_within : {x y B C : Float} → Within x B → Within y C → T (finite (mul f B C)) → Within (mul f x y) (mul f B C)
   unfolding mul
   mul_within (within {s} {m} {n} {e} {d} h) (within {s = t} {m = k} {n = l} {e = g} {d = i} j) F =
-      round_within f (unlike s t) (m * up e * (k * up g)) (down e * down g) (n * up d * (l * up i)) (down d * down i) (mul-pos (down_pos e) (down_pos g)) (mul-pos (down_pos d) (down_pos i))
-      (le_trans (le_of_eq (mul-mul-mul_comm (m * up e) (k * up g) (down d) (down i))) (le_trans (mul-le-mul h j) (le_of_eq (mul-mul-mul_comm (n * up d) (down e) (l * up i) (down g))))) F
+      round_within f (unlike s t) (m * up e * (k * up g)) (down e * down g) (n * up d * (l * up i)) (down d * down i)
+      (mul-pos (down_pos e) (down_pos g)) (mul-pos (down_pos d) (down_pos i))
+      (le_trans (le_of_eq (mul-mul-mul_comm (m * up e) (k * up g) (down d) (down i)))
+      (le_trans (mul-le-mul h j) (le_of_eq (mul-mul-mul_comm (n * up d) (down e) (l * up i) (down g))))) F
 
   pub add_within : {x y B C : Float} → Within x B → Within y C → T (finite (add f B C)) → Within (add f x y) (add f B C)
   unfolding add sum
   add_within (within {s} {m} {n} {e} {d} h) (within {s = t} {m = k} {n = l} {e = g} {d = i} j) F =
-      sum_within f s t (m * up e * down g) (k * up g * down e) (down e * down g) (n * up d * down i + l * up i * down d) (down d * down i) (mul-pos (down_pos e) (down_pos g)) (mul-pos (down_pos d) (down_pos i))
+      sum_within f s t (m * up e * down g) (k * up g * down e) (down e * down g) (n * up d * down i + l * up i * down d) (down d * down i)
+      (mul-pos (down_pos e) (down_pos g)) (mul-pos (down_pos d) (down_pos i))
       (sums (m * up e) (n * up d) (down e) (down d) (k * up g) (l * up i) (down g) (down i) h j) F
     where
       sums : (m n e d k l g i : ℕ) → m * d ≤ n * e → k * i ≤ l * g → (m * g + k * e) * (d * i) ≤ (n * i + l * d) * (e * g)
@@ -204,7 +213,8 @@ module _ (f : Format) where
   unfolding sub
   sub_within h j F = add_within h (neg_within j) F
 
-  div_is : (s : Bool) (m : ℕ) (e : ℤ) (t : Bool) (n : ℕ) (d : ℤ) → 0 < n → div f (fin s m e) (fin t n d) ≡ round f (unlike s t) (m * up e * down d) (n * up d * down e)
+  div_is : (s : Bool) (m : ℕ) (e : ℤ) (t : Bool) (n : ℕ) (d : ℤ) → 0 < n
+      → div f (fin s m e) (fin t n d) ≡ round f (unlike s t) (m * up e * down d) (n * up d * down e)
   unfolding div
   div_is s m e t zero d N = absurd (lt_irrefl 0 N)
   div_is s m e t (suc n) d N = rw eqb-suc-zero
@@ -224,7 +234,8 @@ module _ (f : Format) where
       let by-y = div_is s m e false l i (first_pos l (up i) L) in
       let by-C = div_is false n d false (suc k) g (zero-lt-suc k) in
       rw (by-y, by-C)
-      (round_within f (unlike s false) (m * up e * down i) (l * up i * down e) (n * up d * down g) (suc k * up g * down d) (mul-pos L (down_pos e)) (mul-pos K (down_pos d))
+      (round_within f (unlike s false) (m * up e * down i) (l * up i * down e) (n * up d * down g) (suc k * up g * down d) (mul-pos L (down_pos e))
+      (mul-pos K (down_pos d))
       (quotients (m * up e) (n * up d) (down e) (down d) (suc k * up g) (l * up i) (down g) (down i) h j) (rw by-C at F))
     where
       quotients : (m n e d k l g i : ℕ) → m * d ≤ n * e → k * i ≤ l * g → m * i * (k * d) ≤ n * g * (l * e)
@@ -254,7 +265,8 @@ sum_clear f (within {s} {m} {n} {e} {d} h) = at s
     at true = go (ltb a b) (ltb b a) (ltb→lt b a)
 
 -- x % y is within y
-pub rem_within : (f : Format) (x : Float) (n : ℕ) (d : ℤ) → T (fits f x) → T (finite x) → T (fits f (fin false n d)) → 0 < n → Within (rem f x (fin false n d)) (fin false n d)
+pub rem_within : (f : Format) (x : Float) (n : ℕ) (d : ℤ) → T (fits f x) → T (finite x) → T (fits f (fin false n d)) → 0 < n
+    → Within (rem f x (fin false n d)) (fin false n d)
 rem_within f nan n d h t k N = absurd t
 rem_within f (inf s) n d h t k N = absurd t
 rem_within f (fin s m e) n d h t k N =
@@ -281,7 +293,8 @@ next_digits p m i w j P small wide h = go (dec_le j i)
         rw r (mul-le-mul_right (2 ^ j) (down_one q (lt_of_mul-lt-mul_right (2 ^ j) (rw r at h))))
     go (no g) =
         let l : p + i ≤ p - 1 + j = omega arith in
-        le_of_lt (lt_of_lt_of_le (shl_lt p i small) (le_trans (pow_mono l) (le_trans (le_of_eq (pow-add 2 (p - 1) j)) (mul-le-mul_right (2 ^ j) (down_one (2 ^ (p - 1)) wide)))))
+        le_of_lt (lt_of_lt_of_le (shl_lt p i small) (le_trans (pow_mono l)
+        (le_trans (le_of_eq (pow-add 2 (p - 1) j)) (mul-le-mul_right (2 ^ j) (down_one (2 ^ (p - 1)) wide)))))
 
 -- a value of the format below w * 2 ^ j units, where w has all the digits that the format keeps, is below it by 2 ^ j units at least
 pub next_below : (f : Format) (x : Float) (s : Bool) (a w j : ℕ) → T (fits f x) → Units f x s a → 2 ^ (prec f - 1) < w → a < w * 2 ^ j → a ≤ (w - 1) * 2 ^ j

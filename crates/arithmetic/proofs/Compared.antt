@@ -80,7 +80,8 @@ cut_asks x a c C v h = (
 
 pub cut_value : (w : ℕ) (x : Float) (a c : ℕ) → 0 < c → HasValue x false a c → a / c < 2 ^ w → to_unsigned w x ≡ a / c
 unfolding to_unsigned
-cut_value w x a c C v h = of_value (λ y. to_unsigned w y ≡ a / c) false a c (λ m e k. ap (λ n. min n (2 ^ w - 1)) (div_same (m * up e) (down e) a c (down_pos e) C k) ∙ within (a / c) (2 ^ w) h) x v
+cut_value w x a c C v h = of_value (λ y. to_unsigned w y ≡ a / c) false a c
+    (λ m e k. ap (λ n. min n (2 ^ w - 1)) (div_same (m * up e) (down e) a c (down_pos e) C k) ∙ within (a / c) (2 ^ w) h) x v
   where
     within : (n p : ℕ) → n < p → min n (p - 1) ≡ n
     within n p h = omega arith

@@ -29,7 +29,11 @@ height_is (negsuc k) = omega arith
 
 pub scale : (x : Float) (s : Bool) (a c t : ℕ) → HasValue x s a c → HasValue x s (a * t) (c * t)
 scale x s a c t =
-    of_value (λ y. HasValue y s (a * t) (c * t)) s a c (λ m e h. (refl, sym (mul_assoc (m * up e) c t) ∙ ap (λ (n : ℕ). n * t) h ∙ mul_right_comm a (down e) t)) x
+    of_value (λ y. HasValue y s (a * t) (c * t)) s a c (λ m e h. (
+      refl,
+      sym (mul_assoc (m * up e) c t) ∙ ap (λ (n : ℕ). n * t) h
+          ∙ mul_right_comm a (down e) t,
+    )) x
 
 -- of a count above 0 no zero
 pub not_zero : (s : Bool) (e : ℤ) (t : Bool) (a c : ℕ) → 0 < a → HasValue (fin s 0 e) t a c → ⊥
@@ -57,7 +61,8 @@ module _ (b : ℕ) (hi : b < 2 ^ 63) where
 
 minus_shift : (a l c : ℕ) → minus (a + c) (l + c) ≡ minus a l
 minus_shift a l c =
-    let t : leb (l + c) (a + c) ≡ leb l a = test_same (leb (l + c) (a + c)) (leb l a) (λ h. le→leb l a (omega (arith, leb→le (l + c) (a + c) h))) (λ h. le→leb (l + c) (a + c) (omega (arith, leb→le l a h))) in
+    let t : leb (l + c) (a + c) ≡ leb l a = test_same (leb (l + c) (a + c)) (leb l a) (λ h. le→leb l a (omega (arith, leb→le (l + c) (a + c) h)))
+    (λ h. le→leb (l + c) (a + c) (omega (arith, leb→le l a h))) in
     let p : a + c - (l + c) ≡ a - l = omega arith in
     let n : l + c - suc (a + c) ≡ l - suc a = omega arith in
     rw (t, p, n)
@@ -89,7 +94,17 @@ grid n j k h = go (dec_le k j)
         inr (lt_of_lt_of_le (shl_lt 53 j h) (le_trans (pow_mono {i = 53 + j} {j = 52 + k} (omega arith)) (le_of_eq (pow-add 2 52 k))))
 
 pub counted_zero : (e : ℤ) → Counted 0 e
-counted_zero e = record { count = 0; value = ap (λ (x : ℕ). x * 2 ^ 1074) (zero-mul (up e)) ∙ sym (zero-mul (down e)); beside = λ k. inl (0, sym (zero-mul (2 ^ k))) }
+counted_zero e = record {
+  count = 0;
+  value = ap (λ (x : ℕ). x * 2 ^ 1074) (zero-mul (up e)) ∙ sym (zero-mul (down e));
+  beside =
+      λ k. inl (0, sym (zero-mul (2 ^ k)));
+}
 
 pub counted : (s : Bool) (m : ℕ) (e : ℤ) → T (fits binary64 (fin s m e)) → Counted m e
-counted s m e h = record { count = m * 2 ^ rise binary64 e; value = (count binary64 s m e h).1; beside = λ k. grid m (rise binary64 e) k (fitting binary64 s m e h).small }
+counted s m e h = record {
+  count = m * 2 ^ rise binary64 e;
+  value = (count binary64 s m e h).1;
+  beside =
+      λ k. grid m (rise binary64 e) k (fitting binary64 s m e h).small;
+}

@@ -1,5 +1,5 @@
--- `lt` and `eq` on all floats, NaN and the infinities too: `lt` is irreflexive and transitive, equal ones are less than the same ones, and of two below +infinity
--- one is less or they are equal. Assumes nothing.
+-- `lt` and `eq` on all floats, NaN and the infinities too: `lt` is irreflexive and transitive, equal ones are less than the same ones, and of two
+-- below +infinity one is less or they are equal. Assumes nothing.
 use mathlib.Core.Path.{◌≡◌, refl}
 use Prim.Native.Nat.{ℕ, ◌+◌, ◌*◌, ◌≤◌, ◌<◌}
 use native.Mathlib.Nat.{mul-pos, mul_comm, mul_assoc, mul_left_comm}

@@ -1,4 +1,5 @@
--- A product depends only on the factors' values ±a / c and ±b / d, and no value of the format that is at least as large as the exact one is passed. A sum with +0. Assumes nothing.
+-- A product depends only on the factors' values ±a / c and ±b / d, and no value of the format that is at least as large as the exact one is passed. A
+-- sum with +0. Assumes nothing.
 use mathlib.Core.Path.{◌≡◌, refl, ap, ◌∙◌}
 use Prim.Native.Nat.{ℕ, ◌-◌, ◌*◌, ◌^◌, ◌≤◌, ◌<◌}
 use native.Mathlib.Nat.{mul-pos, one-mul, mul-mul-mul_comm}
@@ -24,7 +25,8 @@ module _ (f : Format) (s t : Bool) (a c b d : ℕ) (C : 0 < c) (D : 0 < d) where
       (mul-mul-mul_comm (m * up e) (n * up g) c d ∙ ap (λ r. r * (n * up g * d)) h ∙ ap (λ r. a * down e * r) k ∙ mul-mul-mul_comm a (down e) b (down g))
 
   -- q * 2 ^ j units, for a q that has no more digits than the format keeps
-  pub mul_most : (x y : Float) (q j : ℕ) → HasValue x s a c → HasValue y t b d → q < 2 ^ prec f → q * 2 ^ j < overflow f → a * b * 2 ^ low f ≤ q * 2 ^ j * (c * d)
+  pub mul_most : (x y : Float) (q j : ℕ) → HasValue x s a c → HasValue y t b d → q < 2 ^ prec f → q * 2 ^ j < overflow f
+      → a * b * 2 ^ low f ≤ q * 2 ^ j * (c * d)
       → AtMost f (mul f x y) (unlike s t) (q * 2 ^ j)
   mul_most x y q j v w Q O h = rw (mul_values x y v w) (round_most f (unlike s t) (a * b) (c * d) q j (mul-pos C D) Q O h)
 
@@ -38,8 +40,10 @@ zero_plus_at f m e h l =
     let k : 0 * 1 * down e < m * up e * 1 = omega arith in
     let g : m * up e ≡ m * up e * 1 - 0 * 1 * down e = omega arith in
     ap (λ p. cond p (round f true (b - a) (1 * down e)) (round f (false && ltb b a) (a - b) (1 * down e))) (lt-ltb a b k)
-    ∙ round_back f (fin true m e) true (b - a) (1 * down e) (mul-pos (lit< tt) (down_pos e)) h (refl, ap (λ d. m * up e * d) (one-mul (down e)) ∙ ap (λ n. n * down e) g)
+    ∙ round_back f (fin true m e) true (b - a) (1 * down e) (mul-pos (lit< tt) (down_pos e)) h
+    (refl, ap (λ d. m * up e * d) (one-mul (down e)) ∙ ap (λ n. n * down e) g)
 
 pub zero_plus : (f : Format) (x : Float) (a c : ℕ) → T (fits f x) → HasValue x true a c → 0 < a → add f (fin false 0 (pos 0)) x ≡ x
 zero_plus f x a c h v A =
-    of_value (λ y. T (fits f y) → add f (fin false 0 (pos 0)) y ≡ y) true a c (λ m e k g. zero_plus_at f m e g (first_pos (m * up e) c (rw k (mul-pos A (down_pos e))))) x v h
+    of_value (λ y. T (fits f y) → add f (fin false 0 (pos 0)) y ≡ y) true a c
+    (λ m e k g. zero_plus_at f m e g (first_pos (m * up e) c (rw k (mul-pos A (down_pos e))))) x v h

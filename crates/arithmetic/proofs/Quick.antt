@@ -20,7 +20,8 @@ on_finite f q (fin s m e) nan = f (fin s m e) nan
 on_finite f q (fin s m e) (inf t) = f (fin s m e) (inf t)
 on_finite f q (fin s m e) (fin t n d) = q s m e t n d
 
-on_finite_is : {f : Float → Float → Float} {q : Bool → ℕ → ℤ → Bool → ℕ → ℤ → Float} → ((s : Bool) (m : ℕ) (e : ℤ) (t : Bool) (n : ℕ) (d : ℤ) → q s m e t n d ≡ f (fin s m e) (fin t n d)) → on_finite f q ≡ f
+on_finite_is : {f : Float → Float → Float} {q : Bool → ℕ → ℤ → Bool → ℕ → ℤ → Float}
+    → ((s : Bool) (m : ℕ) (e : ℤ) (t : Bool) (n : ℕ) (d : ℤ) → q s m e t n d ≡ f (fin s m e) (fin t n d)) → on_finite f q ≡ f
 unfolding on_finite
 on_finite_is {f} {q} h = λ i x y. go x y i
   where
@@ -48,8 +49,10 @@ quick =
       ◌⊕◌ = on_finite (add binary64) (λ s m e t n d. qsum (fall e + fall d) s (m * up e * down d) t (n * up d * down e) (down e * down d));
       ◌⊖◌ = on_finite (sub binary64) (λ s m e t n d. qsum (fall e + fall d) s (m * up e * down d) (not t) (n * up d * down e) (down e * down d));
       ◌⊗◌ = on_finite (mul binary64) (λ s m e t n d. qround (fall e + fall d) (unlike s t) (m * up e * (n * up d)) (down e * down d));
-      ◌⊘◌ = on_finite (div binary64) (λ s m e t n d. let b = n * up d * down e in cond (eqb n 0) (cond (eqb m 0) nan (inf (unlike s t))) (qround (digits b - 1) (unlike s t) (m * up e * down d) b));
-      remainder = on_finite (rem binary64) (λ s m e t n d. cond (eqb n 0) nan (qround (fall e + fall d) s (m * up e * down d % (n * up d * down e)) (down e * down d)));
+      ◌⊘◌ = on_finite (div binary64) (λ s m e t n d. let b = n * up d * down e in
+          cond (eqb n 0) (cond (eqb m 0) nan (inf (unlike s t))) (qround (digits b - 1) (unlike s t) (m * up e * down d) b));
+      remainder = on_finite (rem binary64) (λ s m e t n d. cond (eqb n 0) nan
+          (qround (fall e + fall d) s (m * up e * down d % (n * up d * down e)) (down e * down d)));
       root = qsqrt;
       whole = λ s n. qround 0 s n 1;
     }

@@ -1,4 +1,5 @@
--- `%` of two values of a format: in units of the smallest value it is the remainder of their counts, exactly, so it is smaller than the divisor. A smaller value is its own remainder. Assumes nothing.
+-- `%` of two values of a format: in units of the smallest value it is the remainder of their counts, exactly, so it is smaller than the divisor. A
+-- smaller value is its own remainder. Assumes nothing.
 use mathlib.Core.Path.{◌≡◌, refl, sym, ap, ◌∙◌}
 use Prim.Native.Nat.{ℕ, zero, suc, ◌+◌, ◌-◌, ◌*◌, ◌/◌, ◌%◌, ◌^◌, ◌≤◌, ◌<◌, zero-le}
 use native.Mathlib.Nat.{le_of_lt, lt_of_lt_of_le, lt_of_le_of_lt, lt_irrefl, add-mul, mul_comm, mul_assoc, mul_right_comm, mul-lt-mul_of_pos_right, mul-pos, mod-lt, mod-le, mod-eq_of_lt, div-add-mod'}
@@ -38,7 +39,13 @@ mod_short p m j n k mh nh N = go (dec_le k j)
     go : Dec (k ≤ j) → Short p (m * 2 ^ j % (n * 2 ^ k))
     go (yes g) =
         let w = m * 2 ^ (j - k) in
-        record { digits = w % n; zeros = k; small = lt_of_lt_of_le (mod-lt w N) (le_of_lt nh); is = ap (λ x. x % (n * 2 ^ k)) (apart m j (j - k) k (omega arith)) ∙ mod_scale w n (2 ^ k) N (pow_pos k) }
+        record {
+          digits = w % n;
+          zeros = k;
+          small = lt_of_lt_of_le (mod-lt w N) (le_of_lt nh);
+          is =
+              ap (λ x. x % (n * 2 ^ k)) (apart m j (j - k) k (omega arith)) ∙ mod_scale w n (2 ^ k) N (pow_pos k);
+        }
     go (no g) =
         let w = n * 2 ^ (k - j) in
         record {
@@ -50,16 +57,19 @@ mod_short p m j n k mh nh N = go (dec_le k j)
 
 -- ---- `%` of values
 
-pub rem_is : (f : Format) (s : Bool) (m : ℕ) (e : ℤ) (t : Bool) (n : ℕ) (d : ℤ) → 0 < n → rem f (fin s m e) (fin t n d) ≡ round f s (m * up e * down d % (n * up d * down e)) (down e * down d)
+pub rem_is : (f : Format) (s : Bool) (m : ℕ) (e : ℤ) (t : Bool) (n : ℕ) (d : ℤ) → 0 < n
+    → rem f (fin s m e) (fin t n d) ≡ round f s (m * up e * down d % (n * up d * down e)) (down e * down d)
 unfolding rem
 rem_is f s m e t zero d N = absurd (lt_irrefl 0 N)
 rem_is f s m e t (suc n) d N = ap (λ b. cond b nan (round f s (m * up e * down d % (suc n * up d * down e)) (down e * down d))) (eqb-suc-zero n)
 
-pub rem_below : (f : Format) (s : Bool) (m : ℕ) (e : ℤ) (t : Bool) (n : ℕ) (d : ℤ) → T (fits f (fin s m e)) → m * up e * down d < n * up d * down e → rem f (fin s m e) (fin t n d) ≡ fin s m e
+pub rem_below : (f : Format) (s : Bool) (m : ℕ) (e : ℤ) (t : Bool) (n : ℕ) (d : ℤ) → T (fits f (fin s m e)) → m * up e * down d < n * up d * down e
+    → rem f (fin s m e) (fin t n d) ≡ fin s m e
 rem_below f s m e t n d h l =
     rem_is f s m e t n d (first_pos n (up d) (first_pos (n * up d) (down e) (lt_of_le_of_lt zero-le l)))
     ∙ ap (λ r. round f s r (down e * down d)) (mod-eq_of_lt l)
-    ∙ round_back f (fin s m e) s (m * up e * down d) (down e * down d) (mul-pos (down_pos e) (down_pos d)) h (refl, ap (λ r. m * up e * r) (mul_comm (down e) (down d)) ∙ sym (mul_assoc (m * up e) (down d) (down e)))
+    ∙ round_back f (fin s m e) s (m * up e * down d) (down e * down d) (mul-pos (down_pos e) (down_pos d)) h
+    (refl, ap (λ r. m * up e * r) (mul_comm (down e) (down d)) ∙ sym (mul_assoc (m * up e) (down d) (down e)))
 
 module _ (f : Format) (s : Bool) (m : ℕ) (e : ℤ) (t : Bool) (n : ℕ) (d : ℤ) (h : T (fits f (fin s m e))) (k : T (fits f (fin t n d))) (N : 0 < n) where
   pub rem_exact : Units f (rem f (fin s m e) (fin t n d)) s (m * 2 ^ rise f e % (n * 2 ^ rise f d))
@@ -72,9 +82,12 @@ module _ (f : Format) (s : Bool) (m : ℕ) (e : ℤ) (t : Bool) (n : ℕ) (d : �
       let l = 2 ^ low f in
       let CP : 0 < C = mul-pos (down_pos e) (down_pos d) in
       let ea : A * l ≡ a * C = mul_right_comm (m * up e) (down d) l ∙ ap (λ x. x * down d) (count f s m e h).1 ∙ mul_assoc a (down e) (down d) in
-      let eb : B * l ≡ b * C = mul_right_comm (n * up d) (down e) l ∙ ap (λ x. x * down e) (count f t n d k).1 ∙ mul_assoc b (down d) (down e) ∙ ap (λ x. b * x) (mul_comm (down d) (down e)) in
+      let eb : B * l ≡ b * C = mul_right_comm (n * up d) (down e) l ∙ ap (λ x. x * down e) (count f t n d k).1 ∙ mul_assoc b (down d) (down e)
+      ∙ ap (λ x. b * x) (mul_comm (down d) (down e)) in
       let BP : 0 < B = mul-pos (mul-pos N (up_pos d)) (down_pos e) in
-      let er : A % B * l ≡ a % b * C = sym (mod_scale A B l BP (pow_pos (low f))) ∙ ap (λ x. x % (B * l)) ea ∙ ap (λ x. a * C % x) eb ∙ mod_scale a b C (mul-pos N (pow_pos (rise f d))) CP in
+      let er : A % B * l ≡ a % b * C = sym (mod_scale A B l BP (pow_pos (low f))) ∙ ap (λ x. x % (B * l)) ea ∙ ap (λ x. a * C % x) eb
+      ∙ mod_scale a b C (mul-pos N (pow_pos (rise f d))) CP in
       let q = mod_short (prec f) m (rise f e) n (rise f d) (fitting f s m e h).small (fitting f t n d k).small N in
       rw (rem_is f s m e t n d N, round_same f s (A % B) C (a % b) l CP (pow_pos (low f)) er)
-      (round_exact f s (a % b) l q.digits q.zeros (pow_pos (low f)) q.small (rw (← q.is) (lt_of_le_of_lt (mod-le a b) (count_lt f s m e h))) (ap (λ x. x * l) q.is))
+      (round_exact f s (a % b) l q.digits q.zeros (pow_pos (low f)) q.small (rw (← q.is) (lt_of_le_of_lt (mod-le a b) (count_lt f s m e h)))
+      (ap (λ x. x * l) q.is))

@@ -1,4 +1,5 @@
--- How `round` treats any fraction: the sign goes through it, no value of the format that is at least as large is passed, and a value doubled is exact. Assumes nothing.
+-- How `round` treats any fraction: the sign goes through it, no value of the format that is at least as large is passed, and a value doubled is
+-- exact. Assumes nothing.
 use mathlib.Core.Path.{◌≡◌, refl, sym, ap, ◌∙◌, subst}
 use Prim.Native.Nat.compare
 use Prim.Native.Nat.{ℕ, zero, suc, ◌+◌, ◌-◌, ◌*◌, ◌/◌, ◌^◌, ◌≤◌, ◌<◌}
@@ -67,7 +68,8 @@ pub record AtMost (f : Format) (x : Float) (s : Bool) (n : ℕ) : Type 0 where
   pub is : Units f x s units
   pub most : units ≤ n
 
-pub round_most : (f : Format) (s : Bool) (a c q j : ℕ) → 0 < c → q < 2 ^ prec f → q * 2 ^ j < overflow f → a * 2 ^ low f ≤ q * 2 ^ j * c → AtMost f (round f s a c) s (q * 2 ^ j)
+pub round_most : (f : Format) (s : Bool) (a c q j : ℕ) → 0 < c → q < 2 ^ prec f → q * 2 ^ j < overflow f → a * 2 ^ low f ≤ q * 2 ^ j * c
+    → AtMost f (round f s a c) s (q * 2 ^ j)
 round_most f s a c q j C qh oh h =
     let l : grid f a c ≤ q * 2 ^ j = grid_le (prec f) (a * 2 ^ low f) c q j C qh h in
     record {
@@ -94,8 +96,12 @@ double_exact f s m e h l =
     let d = down e in
     let r = m * 2 ^ rise f e in
     let j : m * 2 ^ suc (rise f e) ≡ 2 * r = ap (λ i. m * i) (pow-succ' 2 (rise f e)) ∙ mul_left_comm m 2 (2 ^ rise f e) in
-    let v : 2 * n * 2 ^ low f ≡ m * 2 ^ suc (rise f e) * d = mul_assoc 2 n (2 ^ low f) ∙ ap (λ i. 2 * i) (count f s m e h).1 ∙ sym (mul_assoc 2 r d) ∙ ap (λ i. i * d) (sym j) in
+    let v : 2 * n * 2 ^ low f ≡ m * 2 ^ suc (rise f e) * d = mul_assoc 2 n (2 ^ low f) ∙ ap (λ i. 2 * i) (count f s m e h).1 ∙ sym (mul_assoc 2 r d)
+    ∙ ap (λ i. i * d) (sym j) in
     let w : (n * d + n * d) * d ≡ 2 * n * (d * d) = omega arith in
     subst (λ x. HasValue x s (2 * n) d)
     (sym (double_is f s (n * d) (d * d) ∙ round_same f s (n * d + n * d) (d * d) (2 * n) d (mul-pos (down_pos e) (down_pos e)) (down_pos e) w))
-    (round_exact f s (2 * n) d m (suc (rise f e)) (down_pos e) (fitting f s m e h).small (subst (λ i. i < overflow f) (sym j) (subst (λ i. 2 * r < i) (sym (ap (λ i. 2 ^ i) (add-suc (low f) (emax f)) ∙ pow-succ' 2 (low f + emax f))) (twice_lt r (2 ^ (low f + emax f)) (count_below f s m e h (emax f) l)))) v)
+    (round_exact f s (2 * n) d m (suc (rise f e)) (down_pos e) (fitting f s m e h).small
+    (subst (λ i. i < overflow f) (sym j) (subst (λ i. 2 * r < i)
+    (sym (ap (λ i. 2 ^ i) (add-suc (low f) (emax f)) ∙ pow-succ' 2 (low f + emax f)))
+    (twice_lt r (2 ^ (low f + emax f)) (count_below f s m e h (emax f) l)))) v)

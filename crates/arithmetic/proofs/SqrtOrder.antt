@@ -1,5 +1,6 @@
--- The square root and the order. Of two values above zero the one with the smaller root is the smaller (`sqrt_order`). So a limit on the root is a limit on the number: where the root of t is b,
--- and that of t's neighbour below is smaller, `lt (sqrt x) b` is `lt x t` (`sqrt_limit`). Assumes nothing.
+-- The square root and the order. Of two values above zero the one with the smaller root is the smaller (`sqrt_order`). So a limit on the root is a
+-- limit on the number: where the root of t is b, and that of t's neighbour below is smaller, `lt (sqrt x) b` is `lt x t` (`sqrt_limit`). Assumes
+-- nothing.
 use mathlib.Core.Path.{◌≡◌, refl, sym, ◌∙◌, subst}
 use mathlib.Core.Logic.{inl, inr}
 use mathlib.Core.Bool.{Bool, true, false, not}
@@ -82,7 +83,8 @@ module _ (x y : Float) where
       meet a u b v i j =
           between ((b * u + a * v) * (b * u + a * v)) (v * u * (v * u)) (num x) (den x) (num y) (den y) (den_pos x) (den_pos y) i (same (den y) (num y) j)
         where
-          same : (w z : ℕ) → (a * v + b * u) * (a * v + b * u) * w < 4 * z * (u * v * (u * v)) → (b * u + a * v) * (b * u + a * v) * w < 4 * z * (v * u * (v * u))
+          same : (w z : ℕ) → (a * v + b * u) * (a * v + b * u) * w < 4 * z * (u * v * (u * v))
+              → (b * u + a * v) * (b * u + a * v) * w < 4 * z * (v * u * (v * u))
           same w z h = omega arith
 
   pub sqrt_order : T (fits binary64 x) → T (fits binary64 y) → T (positive x) → T (positive y) → T (lt (sqrt x) (sqrt y)) → T (lt x y)
@@ -123,8 +125,10 @@ module _ (lower upper : Float) (n : Neighbours lower upper) where
       let x = fin false m e in
       let P = pow_pos 1074 in
       no_count c.count (c.beside n.unit)
-      (lt_of_mul-lt-mul_right (2 ^ 1074) (ltb→lt _ _ (subst T (lt_values false false (a * u) (2 ^ 1074) c.count (2 ^ 1074) P P lower x n.lower_is (refl, c.value)) h)))
-      (lt_of_mul-lt-mul_right (2 ^ 1074) (ltb→lt _ _ (subst T (lt_values false false c.count (2 ^ 1074) (suc a * u) (2 ^ 1074) P P x upper (refl, c.value) n.upper_is) k)))
+      (lt_of_mul-lt-mul_right (2 ^ 1074) (ltb→lt _ _ (subst T
+      (lt_values false false (a * u) (2 ^ 1074) c.count (2 ^ 1074) P P lower x n.lower_is (refl, c.value)) h)))
+      (lt_of_mul-lt-mul_right (2 ^ 1074) (ltb→lt _ _ (subst T
+      (lt_values false false c.count (2 ^ 1074) (suc a * u) (2 ^ 1074) P P x upper (refl, c.value) n.upper_is) k)))
 
 -- ---- a limit on the root
 
@@ -141,7 +145,8 @@ unfolding lt
 nothing e nan p = absurd p
 nothing e (inf s) p = absurd p
 nothing e (fin true n d) p = absurd p
-nothing e (fin false n d) p = is_true (ltb (0 * up e * down d) (n * up d * down e)) (lt→ltb _ _ (none (up e) (down d) (n * up d * down e) (mul-pos (mul-pos (ltb→lt 0 n p) (up_pos d)) (down_pos e))))
+nothing e (fin false n d) p = is_true (ltb (0 * up e * down d) (n * up d * down e))
+    (lt→ltb _ _ (none (up e) (down d) (n * up d * down e) (mul-pos (mul-pos (ltb→lt 0 n p) (up_pos d)) (down_pos e))))
   where
     none : (u v w : ℕ) → 0 < w → 0 * u * v < w
     none u v w h = omega arith
@@ -152,7 +157,8 @@ unsigned nan = true
 unsigned (inf s) = not s
 unsigned (fin s m e) = not s
 
-module _ (lower upper : Float) (n : Neighbours lower upper) (f : T (fits binary64 lower)) (g : T (fits binary64 upper)) (p : T (positive lower)) (q : T (positive upper))
+module _ (lower upper : Float) (n : Neighbours lower upper) (f : T (fits binary64 lower)) (g : T (fits binary64 upper)) (p : T (positive lower))
+    (q : T (positive upper))
     (l : T (lt (sqrt lower) (sqrt upper))) where
   above : (x : Float) → T (fits binary64 x) → T (positive x) → lt (sqrt x) (sqrt upper) ≡ lt x upper
   above x h r = test_same (lt (sqrt x) (sqrt upper)) (lt x upper) (sqrt_order x upper h g r q) (back (lt (sqrt x) (sqrt upper)) (λ k. k))
@@ -162,7 +168,8 @@ module _ (lower upper : Float) (n : Neighbours lower upper) (f : T (fits binary6
       back false k i =
           nothing_between lower upper n x h r
           (sqrt_order lower x f h p r
-          (lt_le (sqrt lower) (sqrt upper) (sqrt x) (sqrt_is_root lower f p).above_zero (sqrt_is_root upper g q).above_zero (sqrt_is_root x h r).above_zero l k))
+          (lt_le (sqrt lower) (sqrt upper) (sqrt x) (sqrt_is_root lower f p).above_zero (sqrt_is_root upper g q).above_zero
+          (sqrt_is_root x h r).above_zero l k))
           i
 
   root : T (positive (sqrt upper))

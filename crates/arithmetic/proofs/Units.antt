@@ -1,5 +1,5 @@
--- A finite value in units of its format's smallest, 2 ^ -low: how many there are, that there are few enough digits, and that a value with its sign is written in one way only,
--- so that a fraction that equals a value of the format rounds to it. Assumes nothing.
+-- A finite value in units of its format's smallest, 2 ^ -low: how many there are, that there are few enough digits, and that a value with its sign is
+-- written in one way only, so that a fraction that equals a value of the format rounds to it. Assumes nothing.
 use mathlib.Core.Path.{◌≡◌, refl, sym, ap, ◌∙◌, subst}
 use Prim.Native.Nat.{ℕ, zero, suc, ◌+◌, ◌-◌, ◌*◌, ◌/◌, ◌%◌, ◌^◌, ◌≤◌, ◌<◌}
 use native.Mathlib.Nat.{le_trans, le_of_eq, lt_of_lt_of_le, lt_of_not-le, not-le_of_lt, one-mul, mul-one, mul_comm, mul_assoc, mul_right_comm, mul-le-mul_right, mul-lt-mul_of_pos_right, lt_of_mul-lt-mul_right, mul-pos, zero-mul}
@@ -23,7 +23,8 @@ of_value P s a c f nan v = absurd v
 of_value P s a c f (inf t) v = absurd v
 of_value P s a c f (fin t m e) v = subst (λ b. P (fin b m e)) (sym v.0) (f m e v.1)
 
-pub of_values : (P : Float → Float → Type 0) (s : Bool) (a c : ℕ) (t : Bool) (b d : ℕ) → ((m : ℕ) (e : ℤ) (n : ℕ) (g : ℤ) → m * up e * c ≡ a * down e → n * up g * d ≡ b * down g → P (fin s m e) (fin t n g))
+pub of_values : (P : Float → Float → Type 0) (s : Bool) (a c : ℕ) (t : Bool) (b d : ℕ)
+    → ((m : ℕ) (e : ℤ) (n : ℕ) (g : ℤ) → m * up e * c ≡ a * down e → n * up g * d ≡ b * down g → P (fin s m e) (fin t n g))
     → (x y : Float) → HasValue x s a c → HasValue y t b d → P x y
 of_values P s a c t b d f x y v w = of_value (λ z. P z y) s a c (λ m e h. of_value (P (fin s m e)) t b d (λ n g k. f m e n g h k) y w) x v
 
@@ -96,7 +97,8 @@ pattern_of : (f : Format) (x : Float) (s : Bool) (a c : ℕ) → 0 < c → HasVa
 unfolding to_bits
 pattern_of f x s a c C v =
     of_value (λ y. to_bits f y ≡ pattern f s (a * 2 ^ low f / c)) s a c
-    (λ m e h. ap (pattern f s) (div_same (m * up e * 2 ^ low f) (down e) (a * 2 ^ low f) c (down_pos e) C (mul_right_comm (m * up e) (2 ^ low f) c ∙ ap (λ n. n * 2 ^ low f) h ∙ mul_right_comm a (down e) (2 ^ low f)))) x v
+    (λ m e h. ap (pattern f s) (div_same (m * up e * 2 ^ low f) (down e) (a * 2 ^ low f) c (down_pos e) C
+    (mul_right_comm (m * up e) (2 ^ low f) c ∙ ap (λ n. n * 2 ^ low f) h ∙ mul_right_comm a (down e) (2 ^ low f)))) x v
 
 pub unique : (f : Format) (x y : Float) (s : Bool) (a c : ℕ) → 0 < c → T (fits f x) → T (fits f y) → HasValue x s a c → HasValue y s a c → x ≡ y
 unique f x y s a c C h k v w =

@@ -1,4 +1,5 @@
-// Geodetic latitude to authalic, on the sphere of equal area, and back.
+// Geodetic latitude to authalic, on the sphere of equal area, and back. That a latitude is not outside is asked of each call and is no
+// type's, as in sine_inside: each is made for its call, which would have to build that type and owe the same proof.
 #![tactic(auto)]
 
 ghost use Rattle.std.specs.Prelude.{◌≡◌, false};
@@ -26,7 +27,8 @@ const AUTHALIC_TO_GEODETIC: [f64; 6] = [
     4.9284235482523806e-17,
 ];
 
-// The five steps of the Rust, the second with the "- c[5]" that it lacks there.
+// The five steps of the Rust, the second with the "- c[5]" that it lacks there. No loop: it would carry the last two values from step
+// to step, of which the first step has but one, and be no shorter.
 #[tactic(auto, unfolding(coordinates::specs::Authalic::apply_coefficients))]
 fn apply_coefficients(phi: Radians, c: [f64; 6]) -> Radians
     requires { outside phi.0 ≡ false }

@@ -36,7 +36,8 @@ eight_read (a ∷ b ∷ c ∷ d ∷ e ∷ f ∷ g ∷ h ∷ x ∷ bs) l = absurd
 pub eight_written : (n : ℕ) → to_be_bytes w64 n ≡ bytes_of 8 n
 unfolding bytes_of
 eight_written n = let e : n ≡ n / 1 = omega arith in
-    ap (λ (low : ℕ). n / 256 ^ 7 % 256 ∷ n / 256 ^ 6 % 256 ∷ n / 256 ^ 5 % 256 ∷ n / 256 ^ 4 % 256 ∷ n / 256 ^ 3 % 256 ∷ n / 256 ^ 2 % 256 ∷ n / 256 % 256 ∷ low % 256 ∷ []) e
+    ap (λ (low : ℕ). n / 256 ^ 7 % 256 ∷ n / 256 ^ 6 % 256 ∷ n / 256 ^ 5 % 256 ∷ n / 256 ^ 4 % 256 ∷ n / 256 ^ 3 % 256 ∷ n / 256 ^ 2 % 256 ∷
+    n / 256 % 256 ∷ low % 256 ∷ []) e
 
 -- n bytes from a place on exchanged for others
 pub put_part : (xs ys : List ℕ) (at n : ℕ) → put_mid at (at + n - at) xs ys ≡ take at xs ++ ys ++ drop (at + n) xs

@@ -10,7 +10,8 @@ use coordinates::lonlat::LonLat;
 use coordinates::spherical::Spherical;
 use dodecahedron::place::Place;
 
-// An answer that C is lent one place for: the numbers that stand for it there.
+// An answer that C is lent one place for: the numbers that stand for it there. A trait of its own, and not Into: the ghost member is the
+// definition that C is told by, which Into has not.
 pub trait Numbers: Copy {
     type Lent: Copy;
 

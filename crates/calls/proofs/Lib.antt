@@ -1,2 +1,2 @@
 -- Laws behind the proofs of the functions.
-pub mod Passed
+pub mod Ends

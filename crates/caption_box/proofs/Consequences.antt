@@ -24,7 +24,8 @@ pub refused_leaves : (b : CaptionBox) (p : Face) (n : ℕ) → check_face p ≡ 
 unfolding taken
 refused_leaves b p n e = ap (λ (g : Given (Unit {0})). box_after g b p) e
 
-pub refused_anywhere : (b : CaptionBox) (ps qs : List Face) (p : Face) (n : ℕ) → check_face p ≡ refused n → taken_all b (ps ++ (p ∷ qs)) ≡ taken_all b (ps ++ qs)
+pub refused_anywhere : (b : CaptionBox) (ps qs : List Face) (p : Face) (n : ℕ) → check_face p ≡ refused n
+    → taken_all b (ps ++ (p ∷ qs)) ≡ taken_all b (ps ++ qs)
 unfolding taken_all
 refused_anywhere b [] qs p n e = ap (λ (c : CaptionBox). taken_all c qs) (refused_leaves b p n e)
 refused_anywhere b (q ∷ ps) qs p n e = refused_anywhere (taken b q) ps qs p n e

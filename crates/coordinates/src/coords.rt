@@ -15,6 +15,7 @@ pub struct Cartesian(pub Vec3);
 
 // Barycentric coordinates and triangle types
 
+// The weights of a triangle's corners. The Rust's name, and no Vec3: nothing that is done to a vector is done to weights.
 #[derive(Clone, Copy)]
 pub struct Barycentric {
     pub u: f64,
@@ -22,6 +23,7 @@ pub struct Barycentric {
     pub w: f64,
 }
 
+// The Rust's names for both triangles, and no generic one: no function is the same for corners on a face and corners on the sphere.
 #[derive(Clone, Copy)]
 pub struct FaceTriangle {
     pub a: Face,

@@ -11,9 +11,8 @@ use coordinates::spherical::Spherical;
 use origin::table::{SoundTable, origin_in};
 use origin::utils::Origin;
 use quaternion::transform_quat;
+use std::f64::consts::PI;
 use transforms::coordinate_transforms::to_cartesian;
-
-const PI: f64 = 3.141592653589793;
 
 // The angles from a face's centre to its vertices and midpoints: the arc tangents of 0.7639320225002102
 // and 0.6180339887498949, DISTANCE_TO_VERTEX and DISTANCE_TO_EDGE.
@@ -21,12 +20,12 @@ const PHI_VERTEX: f64 = 0.6523581397843683;
 
 const PHI_MIDPOINT: f64 = 0.5535743588970453;
 
-// m tenths of a turn from the origin's angle, and phi from its axis.
+// m tenths of a turn from the origin's angle, and phi from its axis. Why an angle that is not outside is of no type, sine_inside says.
 fn around(origin: Origin, m: u8, phi: f64) -> Cartesian
     requires { (m < 10) × (beyond 8·0 origin.angle.0 ≡ false) × (outside phi ≡ false) }
     ensures { result ≡ around ieee origin m phi }
 {
-    let theta = m as f64 * PI / 5.0;
+    let theta = f64::from(m) * PI / 5.0;
     let spherical = Spherical {
         theta: Radians(theta + origin.angle.0),
         phi: Radians(phi),
@@ -34,7 +33,7 @@ fn around(origin: Origin, m: u8, phi: f64) -> Cartesian
     transform_quat(to_cartesian(spherical), origin.quat)
 }
 
-// The centre of face k of a table.
+// The centre of face k of a table. Why a number below 12 is of no type, `origin::table` says.
 fn face_center(table: SoundTable<'_>, k: u8) -> Cartesian
     requires { k < 12 }
     ensures { result ≡ face_center ieee table.entry.rows.now k }
@@ -43,7 +42,8 @@ fn face_center(table: SoundTable<'_>, k: u8) -> Cartesian
     to_cartesian(origin.axis)
 }
 
-// Vertex k % 5 of face k / 5 of a table.
+// Vertex k % 5 of face k / 5 of a table. It and `midpoint` are two definitions, a line each: one function would take what tells them
+// apart, 1 or 0 and an angle, as two more parameters.
 fn vertex(table: SoundTable<'_>, k: u8) -> Cartesian
     requires { k < 60 }
     ensures { result ≡ vertex ieee table.entry.rows.now k }

@@ -9,15 +9,14 @@ use answer::Refusal;
 use coordinates::coords::Cartesian;
 use coordinates::vec3::Vec3;
 use origin::table::SoundTable;
+use vector::{dot, subtract};
 
 // Strictly nearer than 1e-5: the square of the distance is below 1e-10, so that no root is taken.
 fn near(point: Cartesian, vertex: Cartesian) -> bool
     ensures { result ≡ near ieee point vertex }
 {
-    let dx = point.0.x - vertex.0.x;
-    let dy = point.0.y - vertex.0.y;
-    let dz = point.0.z - vertex.0.z;
-    dx * dx + dy * dy + dz * dz < 1e-10
+    let d = subtract(point, vertex);
+    dot(d, d) < 1e-10
 }
 
 // The first row of a frame that is near the point, or 8.
@@ -25,23 +24,18 @@ fn near(point: Cartesian, vertex: Cartesian) -> bool
 pub fn get_vertex(frame: &[f64], point: Cartesian) -> Result<Cartesian, Refusal>
     ensures { given result ≡ find_vertex ieee frame.now point }
 {
-    let mut rows = frame;
-    while let [x, y, z, ..] = rows {
-        let row = Cartesian(Vec3 {
-            x: *x,
-            y: *y,
-            z: *z,
-        });
+    for &[x, y, z] in frame.as_chunks::<3>().0 {
+        let row = Cartesian(Vec3 { x, y, z });
         if near(point, row) {
             return Ok(row);
         }
-        rows = &rows[3..];
     }
     Err(Refusal::NoVertex)
 }
 
 // The first numbers of `rows`, `used` many, are rows. A point that is near none of them becomes,
-// normalised, the next row. How many numbers are used then.
+// normalised, the next row. How many numbers are used then. Three numbers, each written by its name: an array of them would be made to be
+// copied. `rows` is an array with a count beside it, since there is no heap.
 fn add(rows: &mut [f64], used: usize, point: Cartesian) -> usize
     requires { used + 3 ≤ length rows.old }
     ensures rows { take result rows.new ≡ add_row ieee (take used rows.old) point }
@@ -58,8 +52,8 @@ fn add(rows: &mut [f64], used: usize, point: Cartesian) -> usize
     used + 3
 }
 
-// Writes the rows of a table's frame to the front of `rows`, which has room for every candidate. How
-// many numbers they are.
+// Writes the rows of a table's frame to the front of `rows`, which has room for every candidate: an array, since there is no heap. How many
+// numbers they are.
 pub fn build_frame(table: SoundTable<'_>, rows: &mut [f64; 396]) -> usize
     ensures used { result ≡ length (frame_rows ieee table.entry.rows.now) }
     ensures rows { rows.new ≡ frame_rows ieee table.entry.rows.now ++ drop result rows.old }

@@ -1,2 +1,3 @@
 -- The laws of numbers in decimal.
 pub mod Digits
+pub mod Columns

@@ -1,3 +1,4 @@
--- A number in decimal, as text, and the bytes that part what stands on a line. Definitions only.
+-- A number in decimal, as text, in columns, and the bytes that part what stands on a line. Definitions only.
 pub mod Bytes
 pub mod Decimal
+pub mod Columns

@@ -6,21 +6,20 @@ use Prim.Native.Nat.{ℕ, ◌<◌}
 use lib.Ieee.{Float}
 use Rattle.answer.specs.Given.{Given, answered, refused, passed, and_then}
 use Rattle.answer.proofs.Given.{then_answered, bind_answered, then_then}
-use Rattle.arithmetic.specs.Arith.{Arith, ieee}
+use Rattle.arithmetic.specs.Arith.{Arith}
 use Rattle.coordinates.specs.CoordinateTransforms.{from_lon_lat, to_lon_lat}
 use Rattle.coordinates.specs.Conversions.{check_lon_lat, check_spherical, check_face, finite_spherical, finite_lon_lat, finite_face}
 use Rattle.coordinates.specs.declared.coords.Face.{Face}
 use Rattle.coordinates.specs.declared.lonlat.LonLat.{LonLat}
 use Rattle.coordinates.specs.declared.polar.Polar.{Polar}
 use Rattle.coordinates.specs.declared.spherical.Spherical.{Spherical}
-use Rattle.origin.specs.Origins.{ORIGINS, origin_at}
+use Rattle.origin.specs.Origins.{origin_at}
 use Rattle.origin.specs.Table.{check_table}
 use Rattle.nearest.specs.Nearest.{nearest_origin}
 use Rattle.nearest.proofs.LowestNearest.{nearest_is}
 use Rattle.set.specs.Set.{Set, check_set}
-use Rattle.set.specs.Checks.{check_origin, check_call, check_with}
+use Rattle.set.specs.Checks.{check_origin, check_with}
 use Rattle.set.proofs.Lengths.{with_passed, origin_passed, call_passes}
-use Rattle.set.proofs.Opening.{built_in_check}
 use Rattle.stores.specs.Used.{used_written, written_if_there}
 use Rattle.stores.specs.declared.used.Used.{Used}
 use Rattle.stores.proofs.Within.{written_there}
@@ -114,7 +113,8 @@ module _ (A : Arith) (table : List Float) (s : Set) where
   module _ (l : LonLat) where
     -- by the position and the origin that the code has worked out
     pub place_is : (p : Spherical) (o : ℕ) → p ≡ from_lon_lat A l → o ≡ nearest_origin A table p
-        → place_given A table s l ≡ and_then (and_then (check_with A table s) (check_lon_lat l)) (finish (forward_core A (origin_at table o) s p o) (finite_place o))
+        → place_given A table s l ≡ and_then (and_then (check_with A table s) (check_lon_lat l))
+        (finish (forward_core A (origin_at table o) s p o) (finite_place o))
     unfolding place_given
     place_is p o ep eo = rw (eo, ep) (then_thrice (check_set s) (check_table A table) (check_lon_lat l) _)
 

@@ -1,29 +1,25 @@
--- A call's tests in a row, its own checks, its core and its final answer, by the step at which it ends. Assumes nothing.
-use mathlib.Core.Path.{◌≡◌}
+-- A core's work with its final answer, by the step at which it ends; and tests before the core are tests before the whole. Assumes nothing.
+use mathlib.Core.Path.{◌≡◌, refl}
 use Prim.Native.Nat.{ℕ}
-use Rattle.answer.specs.Given.{Given, answered, refused, passed, and_then}
+use Rattle.answer.specs.Given.{Given, answered, refused, and_then}
 use Rattle.dodecahedron.specs.Work.{finish}
 use Rattle.dodecahedron.specs.declared.work.Work.{Work}
 
-module _ {X Y : Type 0} (tests own : Given (Unit {0})) (core : Given (Work X)) (f : X → Given Y) where
-  abbrev whole : Given (Work Y)
-  whole = and_then (and_then tests own) (finish core f)
-
-  pub by_tests : (n : ℕ) → tests ≡ refused n → whole ≡ refused n
-  by_tests n e = rw e
-
-  pub by_own : (n : ℕ) → tests ≡ passed → own ≡ refused n → whole ≡ refused n
-  by_own n p e = rw (p, e)
-
-  pub by_core : (n : ℕ) → tests ≡ passed → own ≡ passed → core ≡ refused n → whole ≡ refused n
+module _ {X Y : Type 0} (f : X → Given Y) where
+  pub by_core : (core : Given (Work X)) (n : ℕ) → core ≡ refused n → refused n ≡ finish core f
   unfolding finish
-  by_core n p q e = rw (p, q, e)
+  by_core core n e = rw e
 
-  pub by_end : (w : Work X) (n : ℕ) → tests ≡ passed → own ≡ passed → core ≡ answered w → f w.answer ≡ refused n → whole ≡ refused n
+  pub by_end : (core : Given (Work X)) (w : Work X) (n : ℕ) → core ≡ answered w → f w.answer ≡ refused n → refused n ≡ finish core f
   unfolding finish
-  by_end w n p q e g = rw (p, q, e) (rw g)
+  by_end core w n e g = rw e (rw g)
 
-  pub by_answer : (w : Work X) (y : Y) → tests ≡ passed → own ≡ passed → core ≡ answered w → f w.answer ≡ answered y
-      → whole ≡ answered (record { answer = y; used = w.used })
+  pub by_answer : (core : Given (Work X)) (w : Work X) (y : Y) → core ≡ answered w → f w.answer ≡ answered y
+      → answered (record { answer = y; used = w.used }) ≡ finish core f
   unfolding finish
-  by_answer w y p q e g = rw (p, q, e) (rw g)
+  by_answer core w y e g = rw e (rw g)
+
+  pub finish_then : (tests : Given (Unit {0})) (core : Given (Work X)) → finish (and_then tests core) f ≡ and_then tests (finish core f)
+  unfolding finish
+  finish_then (answered u) core = refl
+  finish_then (refused n) core = refl

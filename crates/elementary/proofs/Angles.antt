@@ -1,5 +1,6 @@
 -- What atan and atan2 come to at each way through the code. Assumes nothing.
 use Rattle.std.proofs.Common.{◌≡◌, Bool, true, false, ◌&&◌, sym, refl, ap, ◌∙◌}
+use Rattle.std.proofs.lemmas.Bool.{and_left}
 use lib.Ieee.{Float, nan, inf, fin, binary64, add, sub, mul, div, le, eq}
 use Rattle.answer.specs.Number.{is_finite}
 use Rattle.arithmetic.specs.Arith.{ieee}
@@ -7,9 +8,6 @@ use Rattle.arithmetic.specs.Numbers.{0·0}
 use Rattle.elementary.specs.Constants.{PI, FRAC_PI_2}
 use Rattle.float_parts.specs.Signs.{abs, negative, with_sign}
 use Rattle.elementary.specs.Arctangent.{core, atan_size, atan, tangent, atan2_base, atan2}
-
-pub and_first : (p q : Bool) → p ≡ false → (p && q) ≡ false
-and_first p q e = ap (λ (b : Bool). b && q) e
 
 -- the test of the first passed, so the second decides
 pub and_then : (p q r : Bool) → p ≡ true → q ≡ r → (p && q) ≡ r
@@ -67,6 +65,6 @@ module _ (y x : Float) where
     atan2_right e = rw (f, atan2) (rw e)
 
 -- the cases of atan2's base, and those of atan2
-pub ruleset bases = (and_first, and_then, base_zero, base_low, base_high)
+pub ruleset bases = (and_left, and_then, base_zero, base_low, base_high)
 
-pub ruleset atan2s = (and_first, and_then, atan2_nan, atan2_left, atan2_right)
+pub ruleset atan2s = (and_left, and_then, atan2_nan, atan2_left, atan2_right)

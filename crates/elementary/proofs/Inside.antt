@@ -4,6 +4,7 @@
 use Rattle.std.proofs.Common.{◌≡◌, ℕ, zero, suc, ◌+◌, ◌-◌, ◌*◌, ◌<◌, ◌≤◌, Bool, true, false, cond, not, T, ltb, ℤ, pos, negsuc, neg_ℤ, sym, refl, subst, true≢false, mul-le-mul_right, div-lt_iff_lt-mul, lt_of_mul-lt-mul_right, mul-lt-mul_of_pos_right, mul-pos, not-le_of_lt, arith, lit≤, ltb→lt, ltb-false}
 use mathlib.Core.Bool.{false≢true}
 use lib.Ieee.{Float, nan, inf, fin, binary64, up, down, round, of_bits, neg, sum, add, sub, mul, rem, lt, le, fits}
+use lib.Ieee.Bits.{is_true}
 use lib.Ieee.Fits.{down_pos}
 use lib.Ieee.Scale.{finite}
 use Rattle.answer.specs.Given.{answered, refused}
@@ -139,14 +140,10 @@ at_quarter : (k : ℕ) {r : Float} → Within r left_over → Pair (sin_cos_redu
 unfolding sin_cos_reduced
 at_quarter k w = let z = z_small w in turned k (sine_small w z) (cosine_small z)
 
-so : (b : Bool) → T b → b ≡ true
-so true t = refl
-so false t = absurd t
-
 within_turn : {x : Float} → T (fits binary64 x) → Within x quarter_over → x ≡ rem binary64 x TAU
 unfolding abs lt TAU of_bits
 within_turn h (within {s} {m} {n} {e} {d} l) =
-    own_remainder (fin s m e) TAU h (so (lt (fin false m e) TAU) (within_lt {x = fin false m e} {B = quarter_over} TAU (within l) tt).1)
+    own_remainder (fin s m e) TAU h (is_true (lt (fin false m e) TAU) (within_lt {x = fin false m e} {B = quarter_over} TAU (within l) tt).1)
 
 one_turn : {q : Float} → Within q (fin false 5 (negsuc 1)) → Within (whole_float ieee (roundℤ q)) 1·0
 unfolding roundℤ round

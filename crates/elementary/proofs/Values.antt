@@ -1,7 +1,7 @@
 -- Floor and round on values, for every finite x: `floor` is the whole number r with r ≤ x < r + 1, `round` the nearest, halves away
 -- from zero (specs/Values). Assumes nothing.
 use Rattle.std.proofs.Common.{◌≡◌, ℕ, suc, ◌+◌, ◌-◌, ◌*◌, ◌%◌, ◌^◌, ◌<◌, ◌≤◌, Bool, true, false, T, ◌⊎◌, sym, refl, ap, ◌∙◌, subst, inl, inr, le_trans, le_refl, mul-le-mul_right, mod-lt, div-lt_iff_lt-mul, eq-zero-or-pos, mul-lt-mul_of_pos_right, div-add-mod', mul-one, div-mul-le_self, arith, lit≤}
-use native.Mathlib.Nat.{mul-mod_left}
+use native.Mathlib.Nat.{mul-mod_left, ne_of_gt}
 use lib.Ieee.{Float, nan, inf, fin, binary64, fits}
 use lib.Ieee.{round as rounded}
 use lib.Ieee.Back.{round_whole as float-of-whole}
@@ -67,9 +67,6 @@ module _ (n d : ℕ) (D : 0 < d) where
   size_le false z h = omega (arith, cut_lt n d D h)
   size_le true z h = omega (arith, up_part n d D z, cut_lt n d D h)
 
-not_zero : {a : ℕ} → 0 < a → a ≡ 0 → ⊥
-not_zero h e = omega arith
-
 module _ (x : Float) (h : T (fits binary64 x)) (f : T (finite x)) where
   abbrev size_of : ℕ
   size_of = floor_size (negative x) (num x) (den x)
@@ -80,7 +77,7 @@ module _ (x : Float) (h : T (fits binary64 x)) (f : T (finite x)) where
       go : (num x % den x ≡ 0) ⊎ (0 < num x % den x) → Sized x (floor ieee x) size_of
       go (inl z) = subst (λ r. Sized x r size_of) (floor_whole x z) (own x size_of h f z (size_whole (num x) (den x) (den_pos x) (negative x) z))
       go (inr p) =
-          let z = not_zero p in
+          let z = ne_of_gt p in
           let l = size_le (num x) (den x) (den_pos x) (negative x) z (fraction_small x h z) in
           subst (λ r. Sized x r size_of) (floor_part x (negative x) size_of z refl refl) (made x size_of l)
 
@@ -107,5 +104,5 @@ round_value x h f = go (eq-zero-or-pos (num x % den x))
     go (inl z) = subst (RoundOf x) (round_whole x z) (round_of x x (own x (round_size (num x) (den x)) h f z (round_back (num x) (den x) (den_pos x) z)))
     go (inr p) =
         let k = round_size (num x) (den x) in
-        let l : k ≤ 2 ^ 53 = le_trans (round_size_le (num x) (den x) (den_pos x) (fraction_small x h (not_zero p))) (lit≤ tt) in
-        subst (RoundOf x) (round_part x (negative x) k (not_zero p) refl refl) (round_of x (rounded binary64 (negative x) k 1) (made x k l))
+        let l : k ≤ 2 ^ 53 = le_trans (round_size_le (num x) (den x) (den_pos x) (fraction_small x h (ne_of_gt p))) (lit≤ tt) in
+        subst (RoundOf x) (round_part x (negative x) k (ne_of_gt p) refl refl) (round_of x (rounded binary64 (negative x) k 1) (made x k l))

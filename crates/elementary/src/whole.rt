@@ -1,4 +1,4 @@
-// Document 01's floor and round.
+// Document 01's floor and round. Std's methods of these names clear and set the sign by comparisons and choices: measured slower.
 ghost use Rattle.std.specs.Prelude.{◌≡◌, ◌^◌, ◌≤◌, true, false, pos};
 ghost use Rattle.std.specs.Float.{fin};
 ghost use Rattle.std.specs.Float.Ieee.{lt};

@@ -16,7 +16,8 @@ use sine::sin_cos;
 use square_root::root::sqrt;
 use vector::{dot, normalize, scale, scale_and_add};
 
-// What the maps take from the one canonical triangle: all face triangles are congruent.
+// What the maps take from the one canonical triangle: all face triangles are congruent. The functions that take it are no methods of it:
+// the way from the sphere to the face stands in crate `equal_area_forward`, where the struct can have none, and both ways are called alike.
 #[derive(Clone, Copy)]
 pub struct TriangleConstants {
     pub a_dot_b: f64,
@@ -70,7 +71,8 @@ fn between(a: Cartesian, p: Cartesian, rho: f64) -> Cartesian
     scale_and_add(scale(a, weight_a), p, weight_p)
 }
 
-// The point at the angle alpha, rho from A. The angle can be anything, so sine may answer "outside".
+// The point at the angle alpha, rho from A. The angle can be anything, so sine may answer "outside". Three corners, and no triangle: of an odd
+// one B and C come exchanged.
 fn at_angle(
     constants: TriangleConstants,
     a: Cartesian,

@@ -58,7 +58,7 @@ fn one_over(d: f64) -> f64
     if d > 0.0 { 1.0 / d } else { 1.0 }
 }
 
-// From the sphere to the face. bxc is B × C of the spherical triangle.
+// From the sphere to the face. bxc is B × C of the spherical triangle, whose type is the Rust's and has none.
 #[tactic(auto, unfolding(equal_area::specs::EqualArea::forward))]
 pub fn forward(
     constants: TriangleConstants,

@@ -1,4 +1,4 @@
--- The value of an answer, or the NaN that 0.0 / 0.0 is. Assumes nothing.
+-- The value of an answer, or f64::NAN. Assumes nothing.
 use mathlib.Core.Path.{◌≡◌, refl}
 use lib.Ieee.{Float, nan}
 use Rattle.std.specs.Prelude.{Result, Ok, Err}

@@ -16,7 +16,7 @@ use sine::sin;
 pub extern "C" fn a5_sin(x: f64) -> f64
     ensures { result ≡ value_or_nan (sin_given ieee x) }
 {
-    sin(x).unwrap_or(0.0 / 0.0)
+    sin(x).unwrap_or(f64::NAN)
 }
 
 // What x / y leaves.

@@ -15,7 +15,8 @@ use border::answers::put;
 use show::{StoreKind, slot_state};
 
 // 0 names the face store and every other number the sphere store, as C reads a truth value:
-// document 01 has no refusal for a kind that is neither.
+// document 01 has no refusal for a kind that is neither. No `From<u8>` of StoreKind: it would stand in show,
+// which says nothing of C's numbers.
 #[tactic(auto, unfolding(crate::specs::Slots::store_named))]
 fn store_named(kind: u8) -> StoreKind
     ensures { result ≡ store_named kind }

@@ -26,7 +26,8 @@ fn handed_out(wishes: &[u16], level: u16) -> u16
     wishes.iter().map(|wish| (*wish).min(level)).sum()
 }
 
-// How many channels wish for more than the level.
+// How many channels wish for more than the level. That there are 16 wishes is asked of a slice, here and below, and is no array's: the call is
+// lent slices, and tests their lengths in its order.
 fn short_of(wishes: &[u16], level: u16) -> u16
     requires { length wishes.now ≡ the_channels }
     ensures { result ≡ short_of level wishes.now }

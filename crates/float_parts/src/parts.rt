@@ -2,7 +2,8 @@
 ghost use Rattle.std.specs.Prelude.{◌≡◌};
 ghost use Rattle.float_parts.specs.Parts.{digits, places};
 
-// A finite value with no sign is m * 2^h of the smallest ones, 2^-1074.
+// A finite value with no sign is m * 2^h of the smallest ones, 2^-1074. No generic pair with square_root's Wide and Number, though they
+// are two words each: they count in other units, and no function is the same for two of them.
 #[derive(Clone, Copy)]
 pub struct Parts {
     pub m: u64,

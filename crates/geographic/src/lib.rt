@@ -1,4 +1,5 @@
-// Degrees and radians, and longitude and latitude to spherical angles and back, with the Rust's order of operations.
+// Degrees and radians, and longitude and latitude to spherical angles and back, with the Rust's order of operations. Why an angle that is
+// not outside is of no type, sine_inside says.
 #![tactic(auto)]
 
 ghost use Rattle.std.specs.Prelude.{◌≡◌, false};
@@ -13,10 +14,7 @@ use coordinates::base::{Degrees, Radians};
 use coordinates::lonlat::LonLat;
 use coordinates::spherical::Spherical;
 use remainder::remainder;
-
-const PI: f64 = 3.141592653589793;
-
-const FRAC_PI_2: f64 = 1.5707963267948966;
+use std::f64::consts::{FRAC_PI_2, PI};
 
 // Degrees as radians.
 #[tactic(auto, unfolding(coordinates::specs::CoordinateTransforms::deg_to_rad))]

@@ -5,6 +5,7 @@ use mathlib.Core.List.{List, []}
 use Prim.Native.Nat.{ℕ}
 use lib.Ieee.{Float}
 use lib.ListN.{length}
+use Rattle.std.specs.Prelude.{Option, Some, None}
 use Rattle.answer.specs.Given.{Given, answered, refused, and_then, bind}
 use Rattle.arithmetic.specs.Arith.{ieee}
 use Rattle.coordinates.specs.declared.coords.Face.{Face}
@@ -21,8 +22,8 @@ use Rattle.region_work.specs.declared.region.Region.{Region}
 use Rattle.region_work.specs.Region.{region_left, region_given, region_on}
 use Rattle.region_work.specs.Uses.{used_by_region}
 use Rattle.panel.specs.Step.{command_in, carried_out, check_step, unless_refused as unlessStepRefused, panel, step_on}
-use Rattle.panel.specs.declared.registers.Command.{Command}
-use Rattle.panel.specs.declared.registers.Command.TheVariants as command
+use Rattle.strike_records.specs.declared.record.Request.{Request}
+use Rattle.strike_records.specs.declared.record.Request.TheVariants as request
 use Rattle.stores.specs.Used.{all_written}
 use Rattle.histories.specs.Panel.{used_by_command, used_by_step}
 use Rattle.histories.specs.Lists.{Standing, alone, set_used_all}
@@ -55,11 +56,12 @@ carried_left : (s : Set) (g : Given Used) → set_used ieee s g ≡ all_written 
 carried_left s (refused n) = refl
 carried_left s (answered u) = refl
 
-command_left : (table : List Float) (s : Set) (b : List ℕ) (k : Command) → (carried_out ieee table s b k).set ≡ all_written ieee s (used_by_command ieee table s k)
-command_left table s b command.Nothing = refl
-command_left table s b (command.Place p) = carried_left s (used_of (place_given ieee table s p))
-command_left table s b (command.Unplace f o) = carried_left s (used_of (unplace_given ieee table s f o))
-command_left table s b command.Unknown = refl
+command_left : (table : List Float) (s : Set) (b : List ℕ) (k : Given (Option Request))
+    → (carried_out ieee table s b k).set ≡ all_written ieee s (used_by_command ieee table s k)
+command_left table s b (answered None) = refl
+command_left table s b (answered (Some (request.Place p))) = carried_left s (used_of (place_given ieee table s p))
+command_left table s b (answered (Some (request.Unplace f o))) = carried_left s (used_of (unplace_given ieee table s f o))
+command_left table s b (refused n) = refl
 
 pub step_left : (table : List Float) (s : Set) (b : List ℕ) → (step_on ieee table s b).left.set ≡ set_used_all s (used_by_step ieee table s b)
 step_left table s b = by (check_step ieee table s b)

@@ -7,6 +7,7 @@ use native.Mathlib.Omega.{arith}
 use lib.ListN.{length, get_or}
 use lib.Ieee.{Float, nan}
 use borrow.Author.Tests.{eqb-false}
+use Rattle.std.proofs.lemmas.Bool.{or_parts}
 use Rattle.answer.specs.Given.{answered, refused}
 use Rattle.arithmetic.specs.Arith.{ieee}
 use Rattle.set.specs.Sizes.{FACE_SLOTS, FACE_WIDTH, FACE_STORE, SPHERE_WIDTH}
@@ -23,10 +24,6 @@ use Rattle.stores.proofs.Written.{written_length, written_outside}
 use Rattle.stores.proofs.Within.{sphere_below}
 use Rattle.histories.proofs.Taken.{face_coordinates}
 use Rattle.histories.proofs.Uses.{UsedOn, UsedAll, EffectOn, effect_fits}
-
-neither : (a b : Bool) → (a || b) ≡ false → (a ≡ false) × (b ≡ false)
-neither true b e = absurd (true≢false e)
-neither false b e = (refl, e)
 
 -- ---- the face store
 
@@ -50,7 +47,7 @@ module _ (xs : List Float) (l : length xs ≡ FACE_STORE) (i : ℕ) (h : i < 10)
   faces_outside : (r : Bool) (p : ℕ) → faces_at i r (p / FACE_WIDTH) ≡ false → get_or (faces_written ieee xs i r) p nan ≡ get_or xs p nan
   faces_outside false p e = face_outside xs l i (omega arith) p (eqb-false (p / FACE_WIDTH) i e)
   faces_outside true p e =
-      let n = neither _ _ e in
+      let n = or_parts _ _ e in
       let a = face_length xs l (i + 10) (omega arith) in
       face_outside (face_written ieee xs (i + 10)) (a ∙ l) (i + 20) (omega arith) p (eqb-false (p / FACE_WIDTH) (i + 20) n.1)
       ∙ face_outside xs l (i + 10) (omega arith) p (eqb-false (p / FACE_WIDTH) (i + 10) n.0)
@@ -86,7 +83,7 @@ kept_twice width used more xs ys zs first second =
     record {
       long = second.long ∙ first.long;
       outside = λ i e.
-          let none = neither (used (i / width)) (more (i / width)) e in
+          let none = or_parts (used (i / width)) (more (i / width)) e in
           second.outside i none.1 ∙ first.outside i none.0;
     }
 
@@ -123,7 +120,7 @@ module _ (table : List Float) where
       (sphere_kept s u on.0)
       (spheres_kept us (used_written ieee s u) on.1)
 
-frame_kept : (us : List Used) (s : Set) → (all_written ieee s us).frame ≡ s.frame
+pub frame_kept : (us : List Used) (s : Set) → (all_written ieee s us).frame ≡ s.frame
 frame_kept [] s = refl
 frame_kept (u ∷ us) s = frame_kept us (used_written ieee s u)
 

@@ -4,6 +4,7 @@ use mathlib.Core.Path.{◌≡◌, refl, ap, ◌∙◌}
 use mathlib.Core.List.{List}
 use Prim.Native.Nat.{ℕ}
 use lib.Ieee.{Float}
+use Rattle.std.specs.Prelude.{Option, Some, None}
 use Rattle.answer.specs.Given.{Given, answered, refused, and_then}
 use Rattle.arithmetic.specs.Arith.{ieee}
 use Rattle.origin.specs.Table.{check_table}
@@ -11,8 +12,8 @@ use Rattle.set.specs.Set.{Set}
 use Rattle.dodecahedron.specs.Work.{answer_of}
 use Rattle.panel.specs.Registers.{check_block, placed, unplaced}
 use Rattle.panel.specs.Step.{Panel, panel, block_by, command_in, carried_out, check_step, unless_refused, step_on}
-use Rattle.panel.specs.declared.registers.Command.{Command}
-use Rattle.panel.specs.declared.registers.Command.TheVariants as command
+use Rattle.strike_records.specs.declared.record.Request.{Request}
+use Rattle.strike_records.specs.declared.record.Request.TheVariants as request
 use Rattle.histories.proofs.Told.{Since}
 use Rattle.histories.proofs.Taken.{Good}
 use Rattle.histories.proofs.Answers.{same_checks, place_same, unplace_same}
@@ -22,11 +23,11 @@ module _ (table : List Float) (w v : Since) (s n : Set) (good : Good table w s) 
   unfolding check_step
   step_check = ap (λ (g : Given (Unit {0})). and_then (check_block b) (and_then g (check_table ieee table))) (same_checks table w v s n good also)
 
-  command_same : (k : Command) → (carried_out ieee table s b k).block ≡ (carried_out ieee table n b k).block
-  command_same command.Nothing = refl
-  command_same (command.Place p) = ap (λ (g : Given _). block_by placed b (answer_of g)) (place_same table w v s n good also p)
-  command_same (command.Unplace f o) = ap (λ (g : Given _). block_by unplaced b (answer_of g)) (unplace_same table w v s n good also f o)
-  command_same command.Unknown = refl
+  command_same : (k : Given (Option Request)) → (carried_out ieee table s b k).block ≡ (carried_out ieee table n b k).block
+  command_same (answered None) = refl
+  command_same (answered (Some (request.Place p))) = ap (λ (g : Given _). block_by placed b (answer_of g)) (place_same table w v s n good also p)
+  command_same (answered (Some (request.Unplace f o))) = ap (λ (g : Given _). block_by unplaced b (answer_of g)) (unplace_same table w v s n good also f o)
+  command_same (refused n) = refl
 
   pub step_same : (step_on ieee table s b).left.block ≡ (step_on ieee table n b).left.block
   step_same = by (check_step ieee table s b) _ step_check

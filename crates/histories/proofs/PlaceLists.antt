@@ -59,7 +59,8 @@ module _ (table : List Float) (w v : Since) (s n : Set) (good : Good table w s) 
   list_same ps rs = by (check_list ieee table s (length ps) (length rs)) _ (same_check (length ps) (length rs))
     where
       by : (g h : Given (Unit {0})) → g ≡ h
-          → (unless_refused g (placed_in_turn ieee table s ps) (placed rs s)).results ≡ (unless_refused h (placed_in_turn ieee table n ps) (placed rs n)).results
+          → (unless_refused g (placed_in_turn ieee table s ps) (placed rs s)).results
+          ≡ (unless_refused h (placed_in_turn ieee table n ps) (placed rs n)).results
       by (answered u) h e = same_results ps ∙ ap (λ (c : Given (Unit {0})). (unless_refused c (placed_in_turn ieee table n ps) (placed rs n)).results) e
       by (refused k) h e = ap (λ (c : Given (Unit {0})). (unless_refused c (placed_in_turn ieee table n ps) (placed rs n)).results) e
 

@@ -6,6 +6,7 @@ use mathlib.Core.Bool.{Bool, true, false, cond, ◌||◌, or-true, or-false, fal
 use mathlib.Core.List.{List, [], ◌∷◌}
 use Prim.Native.Nat.{ℕ}
 use lib.Ieee.{Float}
+use Rattle.std.proofs.lemmas.Bool.{or_cases}
 use Rattle.answer.specs.Given.{Given, answered, refused}
 use Rattle.stores.specs.declared.used.Used.{Used}
 use Rattle.set.specs.Set.{Set}
@@ -13,11 +14,6 @@ use Rattle.histories.specs.Lists.{Standing, Call, Effect, writes, uses, reads, e
 use Rattle.histories.specs.Since.{Slots, faces_of, spheres_of, used_by, faces_used, spheres_used, is_opened, NoneOpened, UsedLast, here, later}
 use Rattle.histories.specs.EveryList.{opened}
 use Rattle.histories.proofs.Told.{Since, newly, counted, since, since_open}
-
--- one of two has to hold
-either : (a b : Bool) → (a || b) ≡ true → (a ≡ true) ⊎ (b ≡ true)
-either true b e = inl refl
-either false b e = inr e
 
 -- over one store: its slots in what is told, and those that an answer uses
 module _ (pick : Since → Slots) (of : Given (List Used) → Slots) (k : ℕ) (fresh : (s : Standing) → pick (newly s) k ≡ false)
@@ -50,7 +46,7 @@ module _ (pick : Since → Slots) (of : Given (List Used) → Slots) (k : ℕ) (
           → NoneOpened (step s c) cs
           → ((pick w k ≡ true) × NoneOpened s (c ∷ cs)) ⊎ UsedLast used k s (c ∷ cs)
       before true o e none = absurd (false≢true (rw o at e))
-      before false o e none = ⊎_elim (λ p. inl (p, (o, none))) (λ p. inr (here p none)) (either (pick w k) (used (effect s c) k) (rw o at e))
+      before false o e none = ⊎_elim (λ p. inl (p, (o, none))) (λ p. inr (here p none)) (or_cases (pick w k) (used (effect s c) k) (rw o at e))
 
   -- and back
   to_told_before : (cs : List Call) (w : Since) (s : Standing) → pick w k ≡ true → NoneOpened s cs → pick (since w s cs) k ≡ true

@@ -5,6 +5,7 @@ use mathlib.Core.List.{List, [], ◌∷◌}
 use Prim.Native.Nat.{ℕ, ◌<◌}
 use lib.Ieee.{Float}
 use lib.ListN.{length}
+use Rattle.std.specs.Prelude.{Option, Some, None}
 use Rattle.answer.specs.Given.{Given, answered, refused, passed, and_then}
 use Rattle.answer.proofs.Given.{refused_answers_nothing, then_answered, bind_answered}
 use Rattle.arithmetic.specs.Arith.{ieee}
@@ -37,8 +38,8 @@ use Rattle.dodecahedron.proofs.Worked.{forward_used, inverse_used}
 use Rattle.dodecahedron.proofs.Ended.{tests_on, finish_used, forward_is, inverse_is, place_is, unplace_is}
 use Rattle.histories.specs.Lists.{Standing, standing, Call, opens, forwards, inverses, places, unplaces, lists, regions, shows, asks, Effect, writes, uses, reads, alone, effect, steps}
 use Rattle.panel.specs.Step.{command_in, check_step}
-use Rattle.panel.specs.declared.registers.Command.{Command}
-use Rattle.panel.specs.declared.registers.Command.TheVariants as command
+use Rattle.strike_records.specs.declared.record.Request.{Request}
+use Rattle.strike_records.specs.declared.record.Request.TheVariants as request
 use Rattle.histories.specs.Panel.{used_by_command, used_by_step}
 
 abbrev pub UsedOn : List Float → Set → Used → Type 0
@@ -140,12 +141,12 @@ carried_fits : (table : List Float) (s : Set) (g : Given Used) → ((u : Used) �
 carried_fits table s (refused n) on = tt
 carried_fits table s (answered u) on = (on u refl, tt)
 
-command_fits : (table : List Float) (s : Set) (k : Command) → UsedAll table s (used_by_command ieee table s k)
-command_fits table s command.Nothing = tt
-command_fits table s (command.Place p) = carried_fits table s (used_of (place_given ieee table s p)) (place_on table s p)
-command_fits table s (command.Unplace f o) =
+command_fits : (table : List Float) (s : Set) (k : Given (Option Request)) → UsedAll table s (used_by_command ieee table s k)
+command_fits table s (answered None) = tt
+command_fits table s (answered (Some (request.Place p))) = carried_fits table s (used_of (place_given ieee table s p)) (place_on table s p)
+command_fits table s (answered (Some (request.Unplace f o))) =
     carried_fits table s (used_of (unplace_given ieee table s f o)) (λ u e. (unplace_fits table s f o (u ∷ []) (ap alone e)).0)
-command_fits table s command.Unknown = tt
+command_fits table s (refused n) = tt
 
 step_fits : (s : Standing) (b : List ℕ) → EffectOn s (uses (used_by_step ieee s.table s.set b))
 step_fits s b us e =

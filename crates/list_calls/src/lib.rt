@@ -11,7 +11,7 @@ ghost use Rattle.place_list.specs.Lists.{step, placed_one, check_list, called, p
 
 use answer::Refusal;
 use coordinates::lonlat::LonLat;
-use list_parts::{check_counts, result, turns};
+use list_parts::{check_counts, result};
 use nearest::origins::Origins;
 use place_list::PlaceResult;
 use set::checks::check_with;
@@ -51,10 +51,10 @@ pub fn place_list<O: Origins>(
     ensures listed { called (given result) results.new (held set.new)
         ≡ place_list_on ieee (O.table origins) (held set.old) positions.now results.old }
 {
-    let check = check_list(&origins, set.view(), positions.len(), results.len());
-    let n = turns(check, positions.len());
-    for i in 0..n {
-        results[i] = place_one(&origins, set, positions[i]);
+    check_list(&origins, set.view(), positions.len(), results.len())?;
+    // The results by index: what is written through the zip of an iter_mut, no proof knows once the loop is over (tried).
+    for (i, position) in positions.iter().enumerate() {
+        results[i] = place_one(&origins, set, *position);
     }
-    check
+    Ok(())
 }

@@ -1,30 +1,29 @@
 -- What a call on a list has after each turn of its loop, with any table, and that the last of it is what its contract says.
 --     at_turn        the results and the set once the first i positions are placed
 --     at_end         once all are placed, they are what placing in turn gives, where there is a result for each position
---     within         a turn's index lies in both lists
+--     list_passed    a call that passed has a result for each position
 --     Turned         the loop's invariant: the results and the set are those of turn i. It holds before the first turn
 --     long           there are as many results as there were
 --     turned_next    it is kept over a turn
---     turned_end     what the loop leaves is what `place_list_on` says, whether the call is refused or not
+--     turned_end     what the loop leaves, where the call passed, is what `place_list_on` says
 -- Assumes nothing.
-use mathlib.Core.Path.{◌≡◌, refl, sym, ◌∙◌, ap, subst}
+use mathlib.Core.Path.{◌≡◌, refl, sym, ◌∙◌, ap}
 use mathlib.Core.Bool.{not}
 use mathlib.Core.List.{List, [], ◌∷◌}
-use Prim.Native.Nat.{ℕ, zero, suc, ◌<◌}
-use native.Mathlib.Nat.{not-suc-le-zero}
+use Prim.Native.Nat.{ℕ, zero, suc}
 use native.Mathlib.Omega.{arith}
 use lib.Dec.{eqb}
 use lib.Ieee.{Float, nan}
 use lib.ListN.{length, get_or, set, length-set}
 use borrow.Author.Tests.{eqb-true, not-false}
-use Rattle.answer.specs.Given.{Given, answered, refused, passed}
+use Rattle.answer.specs.Given.{passed}
 use Rattle.answer.proofs.Given.{refuse_answered, then_answered}
 use Rattle.arithmetic.specs.Arith.{Arith}
 use Rattle.coordinates.specs.declared.lonlat.LonLat.{LonLat}
 use Rattle.set.specs.Set.{Set}
 use Rattle.set.specs.Checks.{check_with}
 use Rattle.place_list.specs.declared.PlaceResult.{PlaceResult}
-use Rattle.place_list.specs.Lists.{Step, step, Placed, Called, called, placed, placed_one, placed_in_turn, check_counts, check_list, turns_of, unless_refused, place_list_on}
+use Rattle.place_list.specs.Lists.{Step, step, Placed, called, placed, placed_one, placed_in_turn, check_counts, check_list, place_list_on}
 
 -- what stands behind the end of a list of positions
 abbrev pub nowhere : LonLat
@@ -65,17 +64,12 @@ module _ (A : Arith) (table : List Float) where
       ahead s p ps r rs (length ps) ∙ ap (led one.result) (at_end one.set ps rs (same_tail l))
 
 -- ---- a call that passed has a set of the right lengths, and a result for each position
-list_passed : (A : Arith) (table : List Float) (s : Set) (m n : ℕ) → check_list A table s m n ≡ passed → (check_with A table s ≡ passed) × (m ≡ n)
+pub list_passed : (A : Arith) (table : List Float) (s : Set) (m n : ℕ) → check_list A table s m n ≡ passed → (check_with A table s ≡ passed) × (m ≡ n)
 unfolding check_list check_counts
 list_passed A table s m n e =
     let tests = then_answered (check_with A table s) (check_counts m n) tt e in
     let counts = refuse_answered (not (eqb m n)) 14 passed tt tests.1 in
     (tests.0, eqb-true m n (not-false (eqb m n) counts.0))
-
-pub within : (A : Arith) (table : List Float) (s : Set) (m n : ℕ) (g : Given (Unit {0})) (i : ℕ)
-    → g ≡ check_list A table s m n → i < turns_of g m → (i < m) × (i < n)
-within A table s m n (answered u) i e l = (l, subst (λ (j : ℕ). i < j) (list_passed A table s m n (sym e)).1 l)
-within A table s m n (refused c) i e l = absurd (not-suc-le-zero l)
 
 module _ (A : Arith) (table : List Float) (s : Set) (ps : List LonLat) (rs : List PlaceResult) where
   -- what the loop has once i positions are placed
@@ -94,20 +88,8 @@ module _ (A : Arith) (table : List Float) (s : Set) (ps : List LonLat) (rs : Lis
   turned_next i r {results} at e =
       ap (λ (one : Step). placed (set results i one.result) one.set) e ∙ ap (turned A table ps i) at
 
-  abbrev ended : Given (Unit {0}) → Placed → Called
-  ended g d = record { answer = g; left = d }
-
-  abbrev by_check : Given (Unit {0}) → Placed
-  by_check g = unless_refused g (placed_in_turn A table s ps) (placed rs s)
-
-  all_turns : (g : Given (Unit {0})) → g ≡ check_list A table s (length ps) (length rs) → at_turn A table s ps rs (turns_of g (length ps)) ≡ by_check g
-  all_turns (answered u) e = at_end A table s ps rs (list_passed A table s (length ps) (length rs) (sym e)).1
-  all_turns (refused c) e = refl
-
-  pub turned_end : (g : Given (Unit {0})) (n : ℕ) {results : List PlaceResult} {t : Set} → Turned n results t
-      → g ≡ check_list A table s (length ps) (length rs) → n ≡ turns_of g (length ps) → called g results t ≡ place_list_on A table s ps rs
-  turned_end g n at e turns =
-      ap (ended g) at
-      ∙ ap (λ (k : ℕ). ended g (at_turn A table s ps rs k)) turns
-      ∙ ap (ended g) (all_turns g e)
-      ∙ ap (λ (h : Given (Unit {0})). ended h (by_check h)) e
+  pub turned_end : (i : ℕ) {results : List PlaceResult} {t : Set} → Turned i results t → check_list A table s (length ps) (length rs) ≡ passed
+      → i ≡ length ps → called passed results t ≡ place_list_on A table s ps rs
+  turned_end i at e all =
+      let as_many = (list_passed A table s (length ps) (length rs) e).1 in
+      ap (λ (d : Placed). called passed d.results d.set) (at ∙ ap (at_turn A table s ps rs) all ∙ at_end A table s ps rs as_many) ∙ sym (rw e)

@@ -1,16 +1,16 @@
-// Radar lists in one go (document 02, Paper 1): what the calls on lists of positions share. A result, 14, and how many positions
-// are placed; and the laws behind their loop.
+// Radar lists in one go (document 02, Paper 1): what the calls on lists of positions share: a result and 14; and the laws behind
+// their loop.
 #![tactic(auto)]
 
 ghost use Rattle.std.specs.Prelude.{◌≡◌};
 ghost use Rattle.answer.specs.Answer.{given};
-ghost use Rattle.place_list.specs.Lists.{result_of, check_counts, turns_of};
+ghost use Rattle.place_list.specs.Lists.{result_of, check_counts};
 
 use answer::Refusal;
 use dodecahedron::place::Place;
 use place_list::PlaceResult;
 
-// What place gave, as a result.
+// What place gave, as a result. No From: it would have to stand in PlaceResult's crate, which has the definitions and no function.
 pub fn result(outcome: Result<Place, Refusal>) -> PlaceResult
     ensures { result ≡ result_of (given outcome) }
 {
@@ -38,14 +38,4 @@ pub fn check_counts(positions: usize, results: usize) -> Result<(), Refusal>
         return Err(Refusal::ResultCount);
     }
     Ok(())
-}
-
-// How many positions are placed: all of them, or none by a call that is refused.
-pub fn turns(check: Result<(), Refusal>, positions: usize) -> usize
-    ensures { result ≡ turns_of (given check) positions }
-{
-    match check {
-        Ok(()) => positions,
-        Err(_) => 0,
-    }
 }

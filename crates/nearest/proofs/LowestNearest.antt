@@ -39,8 +39,10 @@ later h hs j d t n m l =
     let x = get_or hs j nan in
     record {
       place = omega (arith, l.place);
-      least = λ k. elim k as (λ k. k < length (h ∷ hs) → lt (get_or (h ∷ hs) k nan) x ≡ false) [ zero ↦ (λ p. never (lt h x) n) | suc k ↦ (λ p. l.least k (omega arith)) ];
-      lowest = λ k. elim k as (λ k. k < suc j → eq (get_or (h ∷ hs) k nan) x ≡ false) [ zero ↦ (λ p. never (eq h x) m) | suc k ↦ (λ p. l.lowest k (omega arith)) ];
+      least = λ k. elim k as (λ k. k < length (h ∷ hs) → lt (get_or (h ∷ hs) k nan) x ≡ false)
+          [ zero ↦ (λ p. never (lt h x) n) | suc k ↦ (λ p. l.least k (omega arith)) ];
+      lowest = λ k. elim k as (λ k. k < suc j → eq (get_or (h ∷ hs) k nan) x ≡ false)
+          [ zero ↦ (λ p. never (eq h x) m) | suc k ↦ (λ p. l.lowest k (omega arith)) ];
       number = λ e. absurd (clash e (lt_below x d t));
     }
 
@@ -51,7 +53,8 @@ first h hs d i b t (none n) =
     (one 0 t
     record {
       place = omega arith;
-      least = λ k. elim k as (λ k. k < length (h ∷ hs) → lt (get_or (h ∷ hs) k nan) h ≡ false) [ zero ↦ (λ p. never (lt h h) (lt_irrefl h)) | suc k ↦ (λ p. n k (omega arith)) ];
+      least = λ k. elim k as (λ k. k < length (h ∷ hs) → lt (get_or (h ∷ hs) k nan) h ≡ false)
+          [ zero ↦ (λ p. never (lt h h) (lt_irrefl h)) | suc k ↦ (λ p. n k (omega arith)) ];
       lowest = λ k p. absurd (omega arith);
       number = λ e. absurd (clash e (lt_below h d t));
     })
@@ -63,7 +66,8 @@ first h hs d i b t (one j u l) =
 
 -- the first is not, and the rest has been searched for what is less than d
 next : (h : Float) (hs : List Float) (d : Float) (i b : ℕ) {r : ℕ} → lt h d ≡ false → Found hs d (suc i) b r → Found (h ∷ hs) d i b r
-next h hs d i b e (none n) = none (λ k. elim k as (λ k. k < length (h ∷ hs) → lt (get_or (h ∷ hs) k nan) d ≡ false) [ zero ↦ (λ p. e) | suc k ↦ (λ p. n k (omega arith)) ])
+next h hs d i b e (none n) = none (λ k. elim k as (λ k. k < length (h ∷ hs) → lt (get_or (h ∷ hs) k nan) d ≡ false)
+    [ zero ↦ (λ p. e) | suc k ↦ (λ p. n k (omega arith)) ])
 next h hs d i b e (one j u l) =
     let x = get_or hs j nan in
     subst (Found (h ∷ hs) d i b) (omega arith)

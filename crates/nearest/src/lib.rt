@@ -10,7 +10,7 @@ ghost use Rattle.arithmetic.specs.Arith.{ieee};
 ghost use Rattle.elementary.specs.Sine.{outside, sin};
 ghost use Rattle.coordinates.specs.Constants.{2·0};
 ghost use Rattle.origin.specs.Origins.{ORIGINS};
-ghost use Rattle.nearest.specs.Nearest.{least, haversine, haversines, nearest_origin};
+ghost use Rattle.nearest.specs.Nearest.{least, haversine, haversines};
 
 pub mod origins;
 
@@ -21,8 +21,8 @@ use sine_inside::sin_inside;
 // Modified haversine formula of the Rust: it grows with the angle between the two. The sine of the
 // point's phi is handed over, since several axes share it.
 fn haversine_by(point: Spherical, sine: f64, axis: Spherical) -> f64
-    requires theta_value { (outside point.theta.0 ≡ false) × (outside point.phi.0 ≡ false) }
-    requires theta_value_2 { (outside axis.theta.0 ≡ false) × (outside axis.phi.0 ≡ false) }
+    requires point { (outside point.theta.0 ≡ false) × (outside point.phi.0 ≡ false) }
+    requires axis { (outside axis.theta.0 ≡ false) × (outside axis.phi.0 ≡ false) }
     requires sine_value { sine ≡ sin ieee point.phi.0 }
     ensures { result ≡ haversine ieee point axis }
 {
@@ -39,8 +39,8 @@ fn haversine_by(point: Spherical, sine: f64, axis: Spherical) -> f64
 
 // The haversine of a point and an axis.
 pub fn haversine(point: Spherical, axis: Spherical) -> f64
-    requires theta_value { (outside point.theta.0 ≡ false) × (outside point.phi.0 ≡ false) }
-    requires theta_value_2 { (outside axis.theta.0 ≡ false) × (outside axis.phi.0 ≡ false) }
+    requires point { (outside point.theta.0 ≡ false) × (outside point.phi.0 ≡ false) }
+    requires axis { (outside axis.theta.0 ≡ false) × (outside axis.phi.0 ≡ false) }
     ensures { result ≡ haversine ieee point axis }
 {
     haversine_by(point, sin_inside(point.phi.0), axis)
@@ -60,9 +60,9 @@ const RING_SINE: f64 = 0.8944271909999159;
 
 const SOUTH_SINE: f64 = 1.2246467991473532e-16;
 
-// From the point to each of the twelve axes. They share four values of phi and ten of theta, so
-// that 15 sines do for 48.
-fn haversines(point: Spherical) -> [f64; 12]
+// From the point to each of the twelve axes. They share four values of phi and ten of theta, these each a number of tenths of a turn,
+// so that 15 sines do for 48. The angles are written as the table has them, π among them.
+pub(crate) fn haversines(point: Spherical) -> [f64; 12]
     requires { (outside point.theta.0 ≡ false) × (outside point.phi.0 ≡ false) }
     ensures { result ≡ haversines ieee ORIGINS point }
 {
@@ -73,34 +73,35 @@ fn haversines(point: Spherical) -> [f64; 12]
     let upper = half_sine_squared(1.1071487177940904 - phi);
     let lower = half_sine_squared(2.0344439357957027 - phi);
     let south = half_sine_squared(3.141592653589793 - phi);
-    let t0 = half_sine_squared(0.0 - theta) * s;
-    let t1 = half_sine_squared(0.6283185307179586 - theta) * s;
-    let t2 = half_sine_squared(1.2566370614359172 - theta) * s;
-    let t3 = half_sine_squared(1.8849555921538759 - theta) * s;
-    let t4 = half_sine_squared(2.5132741228718345 - theta) * s;
-    let t5 = half_sine_squared(3.141592653589793 - theta) * s;
-    let t6 = half_sine_squared(3.7699111843077517 - theta) * s;
-    let t7 = half_sine_squared(4.39822971502571 - theta) * s;
-    let t8 = half_sine_squared(5.026548245743669 - theta) * s;
-    let t9 = half_sine_squared(5.654866776461628 - theta) * s;
+    let t0 = half_sine_squared(0.0 - theta);
+    let t1 = half_sine_squared(0.6283185307179586 - theta);
+    let t2 = half_sine_squared(1.2566370614359172 - theta);
+    let t3 = half_sine_squared(1.8849555921538759 - theta);
+    let t4 = half_sine_squared(2.5132741228718345 - theta);
+    let t5 = half_sine_squared(3.141592653589793 - theta);
+    let t6 = half_sine_squared(3.7699111843077517 - theta);
+    let t7 = half_sine_squared(4.39822971502571 - theta);
+    let t8 = half_sine_squared(5.026548245743669 - theta);
+    let t9 = half_sine_squared(5.654866776461628 - theta);
     [
-        north + t0 * 0.0,
-        upper + t0 * RING_SINE,
-        lower + t1 * RING_SINE,
-        lower + t3 * RING_SINE,
-        upper + t2 * RING_SINE,
-        upper + t4 * RING_SINE,
-        upper + t6 * RING_SINE,
-        lower + t7 * RING_SINE,
-        lower + t5 * RING_SINE,
-        south + t0 * SOUTH_SINE,
-        lower + t9 * RING_SINE,
-        upper + t8 * RING_SINE,
+        north + t0 * s * 0.0,
+        upper + t0 * s * RING_SINE,
+        lower + t1 * s * RING_SINE,
+        lower + t3 * s * RING_SINE,
+        upper + t2 * s * RING_SINE,
+        upper + t4 * s * RING_SINE,
+        upper + t6 * s * RING_SINE,
+        lower + t7 * s * RING_SINE,
+        lower + t5 * s * RING_SINE,
+        south + t0 * s * SOUTH_SINE,
+        lower + t9 * s * RING_SINE,
+        upper + t8 * s * RING_SINE,
     ]
 }
 
-// The place of the least, the first where several are equal.
-fn least(distances: &[f64; 12]) -> u8
+// The place of the least, the first where several are equal. Not std's `min_by`: `total_cmp` tells -0 from +0 and ranks a NaN; here the
+// two are equal, and a NaN is never less.
+pub(crate) fn least(distances: &[f64; 12]) -> u8
     ensures { result ≡ least distances.now }
 {
     let mut min_distance = f64::INFINITY;
@@ -114,35 +115,16 @@ fn least(distances: &[f64; 12]) -> u8
     nearest
 }
 
-// The lowest-numbered origin with the least haversine, without the checks of the call.
-#[tactic(auto, unfolding(crate::specs::Nearest::nearest_origin))]
-pub fn find_nearest_origin(point: Spherical) -> u8
-    requires { (outside point.theta.0 ≡ false) × (outside point.phi.0 ≡ false) }
-    ensures { result ≡ nearest_origin ieee ORIGINS point }
-{
-    let distances = haversines(point);
-    least(&distances)
-}
-
-// From the point to each of a table's twelve axes.
-fn haversines_in(table: SoundTable<'_>, point: Spherical) -> [f64; 12]
+// From the point to each of a table's twelve axes. Each is written at its index: by `from_fn` the closure wants both clauses of the loop's
+// body beside it and a cast of the index, and what a zip with `iter_mut` has written, no proof knows.
+pub(crate) fn haversines_in(table: SoundTable<'_>, point: Spherical) -> [f64; 12]
     requires { (outside point.theta.0 ≡ false) × (outside point.phi.0 ≡ false) }
     ensures { result ≡ haversines ieee table.entry.rows.now point }
 {
     let sine = sin_inside(point.phi.0);
     let mut distances = [0.0; 12];
     for k in 0..12 {
-        distances[k as usize] = haversine_by(point, sine, origin_in(table.rows, k).axis);
+        distances[usize::from(k)] = haversine_by(point, sine, origin_in(table.rows, k).axis);
     }
     distances
-}
-
-// The lowest-numbered origin of a table with the least haversine, without the checks of the call.
-#[tactic(auto, unfolding(crate::specs::Nearest::nearest_origin))]
-pub fn find_nearest_in(table: SoundTable<'_>, point: Spherical) -> u8
-    requires { (outside point.theta.0 ≡ false) × (outside point.phi.0 ≡ false) }
-    ensures { result ≡ nearest_origin ieee table.entry.rows.now point }
-{
-    let distances = haversines_in(table, point);
-    least(&distances)
 }

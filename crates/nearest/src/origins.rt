@@ -6,9 +6,9 @@ ghost use Rattle.arithmetic.specs.Arith.{ieee};
 ghost use Rattle.elementary.specs.Sine.{outside};
 ghost use Rattle.origin.specs.Origins.{ORIGINS, origin_at};
 ghost use Rattle.origin.specs.Table.{numbers_sound, check_table};
-ghost use Rattle.nearest.specs.Nearest.{nearest_origin};
+ghost use Rattle.nearest.specs.Nearest.{haversines, nearest_origin};
 
-use crate::{find_nearest_in, find_nearest_origin};
+use crate::{haversines, haversines_in, least};
 use answer::Refusal;
 use coordinates::spherical::Spherical;
 use origin::origin::{built_in, get_origin};
@@ -27,16 +27,26 @@ pub trait Origins: Copy {
     fn check(&self) -> Result<(), Refusal>
         ensures { given result ≡ check_table ieee (table self.now) };
 
-    // The origin with the number id.
+    // The origin with the number id. Why an id below 12 is of no type, `origin::table` says.
     fn get_origin(&self, id: u8) -> Origin
         requires { id < 12 }
         ensures { result ≡ origin_at (table self.now) id };
 
-    // The lowest-numbered origin with the least haversine, without the checks of the call.
-    fn find_nearest_origin(&self, point: Spherical) -> u8
+    // From the point to each of the twelve axes.
+    fn haversines(&self, point: Spherical) -> [f64; 12]
         requires table_value { numbers_sound (table self.now) ≡ true }
-        requires theta_value { (outside point.theta.0 ≡ false) × (outside point.phi.0 ≡ false) }
-        ensures { result ≡ nearest_origin ieee (table self.now) point };
+        requires point { (outside point.theta.0 ≡ false) × (outside point.phi.0 ≡ false) }
+        ensures { result ≡ haversines ieee (table self.now) point };
+
+    // The lowest-numbered origin with the least haversine, without the checks of the call.
+    final fn find_nearest_origin(&self, point: Spherical) -> u8
+        requires table_value { numbers_sound (table self.now) ≡ true }
+        requires point { (outside point.theta.0 ≡ false) × (outside point.phi.0 ≡ false) }
+        ensures { result ≡ nearest_origin ieee (table self.now) point }
+    {
+        let distances = self.haversines(point);
+        least(&distances)
+    }
 }
 
 // The built-in table.
@@ -50,7 +60,6 @@ impl Origins for BuiltIn {
         built_in()
     }
 
-    #[tactic(auto, using(origin::proofs::BuiltInPasses::built_in_passes))]
     fn check(&self) -> Result<(), Refusal> {
         Ok(())
     }
@@ -59,8 +68,8 @@ impl Origins for BuiltIn {
         get_origin(id)
     }
 
-    fn find_nearest_origin(&self, point: Spherical) -> u8 {
-        find_nearest_origin(point)
+    fn haversines(&self, point: Spherical) -> [f64; 12] {
+        haversines(point)
     }
 }
 
@@ -80,8 +89,8 @@ impl Origins for [f64; 84] {
         origin_in(self, id)
     }
 
-    fn find_nearest_origin(&self, point: Spherical) -> u8 {
+    fn haversines(&self, point: Spherical) -> [f64; 12] {
         let table = SoundTable { rows: self };
-        find_nearest_in(table, point)
+        haversines_in(table, point)
     }
 }

@@ -16,8 +16,8 @@ use origin::table::SoundTable;
 use set::sizes::FRAME;
 
 // Opens a set where all checks have passed: writes the frame of the table and empties both stores, or
-// refuses with 7. The frame is built apart, so that a refusal leaves what was lent as it was. It is written, so that the buffers
-// are lent one by one, as in open.
+// refuses with 7. The frame is built apart, so that a refusal leaves what was lent as it was. Since it is written here, the
+// buffers are lent one by one and are no `Set`, as in open.
 pub fn open_checked(
     table: &[f64; 84],
     frame: &mut [f64],

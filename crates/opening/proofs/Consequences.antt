@@ -19,7 +19,7 @@ use Rattle.histories.specs.BuiltIn.{AllBuiltIn}
 use Rattle.histories.proofs.BuiltIn.{table_kept, table_left}
 use Rattle.opening.specs.Opening.{RightLengths, RefusedWith, InForce, Without8}
 use Rattle.opening.specs.Refusals.{among, CALL_REFUSALS, NoneRefused}
-use Rattle.opening.proofs.Lists.{run_then}
+use Rattle.opening.proofs.Lists.{left_then}
 use Rattle.opening.proofs.Theorem.{open_answers, lengths_after, call_left, never_8}
 
 -- ---- where open answers
@@ -70,7 +70,7 @@ module _ (b : Set) (l : RightLengths b) (n : ℕ) (gone : among n CALL_REFUSALS 
       let same : standing ORIGINS (left ORIGINS b before).set ≡ s = λ j. standing (sym is j) (there j) in
       let at : Standing → Type 0 = λ t. RefusedWith n (effect t c) in
       let left_over : at s → among n CALL_REFUSALS ≡ true = λ r. call_left b l before in-force c all.0 n (subst at (sym same) r) in
-      let next = run_then (opened ORIGINS b) before c ∙ ap (λ (t : Standing). step t c) e in (
+      let next = left_then ORIGINS b before c e in (
         (λ r. true≢false (sym (left_over r) ∙ gone)),
         none_from (before ++ c ∷ []) cs (step s c) next (table_kept s c is all.0) all.1,
       )

@@ -8,14 +8,14 @@ use native.Mathlib.Omega.{arith}
 use lib.Dec.{eqb, leb}
 use lib.ListN.{length, get_or}
 use lib.Ieee.{Float, of_bits}
-use Rattle.answer.specs.Given.{Given, answered, refused}
+use Rattle.answer.specs.Given.{Given, passed, answered, refused}
 use Rattle.answer.proofs.Given.{refused_answers_nothing}
 use Rattle.arithmetic.specs.Arith.{ieee}
 use Rattle.origin.specs.Origins.{ORIGINS}
 use Rattle.crs.specs.Frame.{frame_rows}
 use Rattle.set.specs.Set.{Set}
 use Rattle.set.specs.Checks.{check_with}
-use Rattle.set.proofs.Lengths.{Fits, set_passes}
+use Rattle.set.proofs.Lengths.{set_passes}
 use Rattle.set.specs.Open.{open_given}
 use Rattle.set.proofs.Opening.{open_opened, built_in_check}
 use Rattle.stores.specs.Used.{used_written, all_written}
@@ -37,6 +37,7 @@ use Rattle.region_work.specs.Uses.{used_by_region}
 use Rattle.histories.specs.Defined.{sphere_defined}
 use Rattle.histories.specs.EveryList.{opened, left}
 use Rattle.histories.specs.BuiltIn.{BuiltIn}
+use Rattle.histories.proofs.Outside.{frame_kept}
 use Rattle.histories.proofs.Theorem.{every_list}
 use Rattle.histories.specs.Results.{each}
 use Rattle.histories.proofs.BuiltIn.{answers_built_in, results_built_in}
@@ -49,12 +50,14 @@ use Rattle.opening.specs.Refusals.{among, Only, FORWARD_REFUSALS, INVERSE_REFUSA
 use Rattle.opening.proofs.Refusals.{Within, among_within, answer_refused, only_passed, only_answered, only_if, only_then, only_bind, counts_only, positions_only, origins_only, block_only}
 use Rattle.opening.proofs.Fresh.{rows_long, fresh_left}
 
+-- the tests of a call on a set of the right lengths
+all_pass : (b : Set) → RightLengths b → check_with ieee ORIGINS b ≡ passed
+all_pass b l = built_in_check b ∙ set_passes b (record { frame = l.frame; faces = l.faces; spheres = l.spheres })
+
 -- ---- open
 
 pub open_answers : OpenAnswers
-open_answers b l =
-    let fits : Fits b = record { frame = l.frame; faces = l.faces; spheres = l.spheres } in
-    open_opened ieee ORIGINS b (built_in_check b ∙ set_passes b fits) rows_long
+open_answers b l = open_opened ieee ORIGINS b (all_pass b l) rows_long
 
 pub demand_3_by_lengths : Demand3ByLengths
 demand_3_by_lengths b l cs =
@@ -67,20 +70,16 @@ demand_3_by_lengths b l cs =
 abbrev Framed : Standing → Type 0
 Framed s = s.set.frame ≡ frame_rows ieee s.table
 
-written_frame : (us : List Used) (s : Set) → (all_written ieee s us).frame ≡ s.frame
-written_frame [] s = refl
-written_frame (u ∷ us) s = written_frame us (used_written ieee s u)
-
-frame_kept : (s : Standing) (e : Effect) → Framed s → Framed (after s e)
-frame_kept s (writes table (answered u)) h = refl
-frame_kept s (writes table (refused n)) h = h
-frame_kept s (uses (answered us)) h = written_frame us s.set ∙ h
-frame_kept s (uses (refused n)) h = h
-frame_kept s reads h = h
+frame_left : (s : Standing) (e : Effect) → Framed s → Framed (after s e)
+frame_left s (writes table (answered u)) h = refl
+frame_left s (writes table (refused n)) h = h
+frame_left s (uses (answered us)) h = frame_kept us s.set ∙ h
+frame_left s (uses (refused n)) h = h
+frame_left s reads h = h
 
 frame_after_run : (cs : List Call) (s : Standing) → Framed s → Framed (run s cs)
 frame_after_run [] s h = h
-frame_after_run (c ∷ cs) s h = frame_after_run cs (step s c) (frame_kept s (effect s c) h)
+frame_after_run (c ∷ cs) s h = frame_after_run cs (step s c) (frame_left s (effect s c) h)
 
 -- ---- after every list
 
@@ -107,6 +106,10 @@ failing_only n only (p ∷ ps) = by (place_on ieee ORIGINS n p).answer refl (fai
     by (answered q) is rest = rest
     by (refused m) is rest = only_if CALL_REFUSALS (not (eqb m 0)) m _ (among_within m PLACE_REFUSALS CALL_REFUSALS place_within (only.place p m is)) rest
 
+-- on the set that open has left, the numbers that are left
+opened_refusals : (b : Set) → RightLengths b → RefusalsLeft (opened ORIGINS b).set
+opened_refusals b l = rw (open_answers b l) fresh_left
+
 opened_framed : (b : Set) → RightLengths b → Framed (opened ORIGINS b)
 opened_framed b l = rw (open_answers b l)
 
@@ -124,7 +127,7 @@ module _ (b : Set) (l : RightLengths b) (cs : List Call) (is : InForce b cs) whe
 
   pub refusals_left : RefusalsLeft s
   refusals_left =
-      let there : RefusalsLeft (opened ORIGINS b).set = rw (open_answers b l) fresh_left in
+      let there = opened_refusals b l in
       let same = (demand_3_by_lengths b l cs).1 is b l in
       record {
         forward = λ p o. subst (Only FORWARD_REFUSALS) (sym (same.forward p o)) (there.forward p o);
@@ -133,13 +136,20 @@ module _ (b : Set) (l : RightLengths b) (cs : List Call) (is : InForce b cs) whe
         unplace = λ f o. subst (Only INVERSE_REFUSALS) (sym (same.unplace f o)) (there.unplace f o);
       }
 
+  -- the tests of the next call on the set
+  passes : check_with ieee ORIGINS s ≡ passed
+  passes = all_pass s lengths_after
+
+  -- the positions of a list are placed as by themselves on the newly opened set
+  placed_alike : (ps : List LonLat) → (placed_in_turn ieee ORIGINS s ps).results ≡ each ORIGINS (opened ORIGINS b).set ps
+  placed_alike = let ready = open_answers b l in results_built_in b ready cs is b ready
+
   -- a list of positions is itself refused only for the number of its results
   list_only : (ps : List LonLat) (results : ℕ) → Only CALL_REFUSALS (used_by_list ieee ORIGINS s ps results)
   unfolding check_list among
   list_only ps results =
       let ns = CALL_REFUSALS in
-      let fits : Fits s = record { frame = lengths_after.frame; faces = lengths_after.faces; spheres = lengths_after.spheres } in
-      let checks = only_then ns _ _ (only_passed ns (built_in_check s ∙ set_passes s fits)) (λ set. counts_only ns refl (length ps) results) in
+      let checks = only_then ns _ _ (only_passed ns passes) (λ set. counts_only ns refl (length ps) results) in
       only_then ns _ _ checks (λ counts. only_answered ns _)
 
   -- a region is refused for how many positions it has, for its point places, for a position of its own, or for two faces
@@ -149,13 +159,10 @@ module _ (b : Set) (l : RightLengths b) (cs : List Call) (is : InForce b cs) whe
       let ns = CALL_REFUSALS in
       let n = length ps in
       let rs = (placed_in_turn ieee ORIGINS s ps).results in
-      let fits : Fits s = record { frame = lengths_after.frame; faces = lengths_after.faces; spheres = lengths_after.spheres } in
-      let ready = open_answers b l in
-      let there : RefusalsLeft (opened ORIGINS b).set = rw ready fresh_left in
-      let same = results_built_in b ready cs is b ready ps in
-      let failing = subst (λ (qs : List PlaceResult). Only ns (first_failing qs)) (sym same) (failing_only _ there ps) in
+      let failed : List PlaceResult → Type 0 = λ qs. Only ns (first_failing qs) in
+      let failing = subst failed (sym (placed_alike ps)) (failing_only _ (opened_refusals b l) ps) in
       only_bind ns (region_given ieee ORIGINS s ps n points) _
-      (only_then ns (check_with ieee ORIGINS s) _ (only_passed ns (built_in_check s ∙ set_passes s fits)) λ set.
+      (only_then ns (check_with ieee ORIGINS s) _ (only_passed ns passes) λ set.
       only_then ns (check_positions n) _ (positions_only ns refl n) λ positions.
       only_then ns (check_counts n points) _ (counts_only ns refl n points) λ counts.
       only_then ns (first_failing rs) _ failing λ all.
@@ -168,8 +175,7 @@ module _ (b : Set) (l : RightLengths b) (cs : List Call) (is : InForce b cs) whe
   unfolding check_step among
   step_only block =
       let ns = CALL_REFUSALS in
-      let fits : Fits s = record { frame = lengths_after.frame; faces = lengths_after.faces; spheres = lengths_after.spheres } in
-      let checks = only_then ns _ _ (block_only ns refl block) (λ e. only_passed ns (built_in_check s ∙ set_passes s fits)) in
+      let checks = only_then ns _ _ (block_only ns refl block) (λ e. only_passed ns passes) in
       only_then ns _ _ checks (λ e. only_answered ns _)
 
   -- whichever call comes next, open with the built-in table included
@@ -216,10 +222,8 @@ never_8 b l cs is =
       place = λ p e. true≢false (sym (only.place p 8 e));
       unplace = λ f o e. true≢false (sym (only.unplace f o 8 e));
       place_list = λ ps i r h e.
-          let ready = open_answers b l in
-          let there : RefusalsLeft (opened ORIGINS b).set = rw ready fresh_left in
-          let same = results_built_in b ready cs is b ready ps in
-          each_8 _ there ps i r h (ap (λ (rs : List PlaceResult). (get_or rs i r).refusal) (sym same) ∙ e);
+          let same = ap (λ (rs : List PlaceResult). (get_or rs i r).refusal) (sym (placed_alike b l cs is ps)) in
+          each_8 _ (opened_refusals b l) ps i r h (same ∙ e);
       step = λ block passes asked.
           let placed : (p : LonLat) → (place_on ieee ORIGINS (left ORIGINS b cs).set p).answer ≡ refused 8 → ⊥ =
           λ p e. true≢false (sym (only.place p 8 e)) in

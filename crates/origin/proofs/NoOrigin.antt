@@ -4,15 +4,15 @@ use mathlib.Core.List.{List}
 use Prim.Native.Nat.{ℕ, ◌+◌, ◌*◌, ◌≤◌, ◌<◌}
 use native.Mathlib.Omega.{arith}
 use lib.ListN.{length, get_or, get_or-eq_default}
-use lib.Ieee.{Float, nan, binary64, of_bits, div}
+use lib.Ieee.{Float, nan, binary64, of_bits}
 use Rattle.origin.specs.Origins.{origin_of, origin_at}
 
--- NaN as the code makes it
+-- NaN as the code has it
 abbrev made : Float
-made = div binary64 (of_bits binary64 0) (of_bits binary64 0)
+made = of_bits binary64 0x7ff8_0000_0000_0000
 
 made_nan : made ≡ nan
-unfolding div of_bits
+unfolding of_bits
 made_nan = refl
 
 module _ (table : List Float) (rows : length table ≡ 84) where

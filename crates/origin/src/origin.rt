@@ -102,12 +102,12 @@ pub fn built_in() -> [f64; 84]
     ORIGINS
 }
 
-// The origin with the number id; NaN in every place where there is none.
+// The origin with the number id; NaN in every place where there is none. No `Option`: it is total, as its definition is, and asks nothing of id.
 pub fn get_origin(id: u8) -> Origin
     ensures { result ≡ origin_at the_origins id }
 {
     if id > 11 {
-        let nan = 0.0 / 0.0;
+        let nan = f64::NAN;
         return Origin {
             axis: Spherical {
                 theta: Radians(nan),

@@ -18,24 +18,20 @@ pub struct SoundTable<'a> {
     ghost sound: { numbers_sound rows.now ≡ true },
 }
 
-// The origin with the number id in a table.
+// The origin with the number id in a table. A table is 84 numbers in a row, as the file and C have them, and no array of rows. An id is C's
+// byte: a type for one below 12 would be built by each caller from the proof that this clause asks.
 pub fn origin_in(table: &[f64; 84], id: u8) -> Origin
     requires { id < 12 }
     ensures { result ≡ origin_at table.now id }
 {
-    let at = 7 * (id as usize);
+    let [theta, phi, x, y, z, w, angle] = table.as_chunks::<7>().0[usize::from(id)];
     Origin {
         axis: Spherical {
-            theta: Radians(table[at]),
-            phi: Radians(table[at + 1]),
+            theta: Radians(theta),
+            phi: Radians(phi),
         },
-        quat: Quat {
-            x: table[at + 2],
-            y: table[at + 3],
-            z: table[at + 4],
-            w: table[at + 5],
-        },
-        angle: Radians(table[at + 6]),
+        quat: Quat { x, y, z, w },
+        angle: Radians(angle),
     }
 }
 
@@ -72,22 +68,11 @@ fn is_unit(q: Quat) -> bool
 pub fn check_rows(table: &[f64; 84]) -> Result<(), Refusal>
     ensures { given result ≡ check_table ieee table.now }
 {
-    for k in 0..12 {
-        if !row_sound(origin_in(table, k)) {
-            return Err(Refusal::TableNumber);
-        }
+    if !(0..12).all(|k| row_sound(origin_in(table, k))) {
+        return Err(Refusal::TableNumber);
     }
-    for m in 0..12 {
-        if !is_unit(origin_in(table, m).quat) {
-            return Err(Refusal::TableQuaternion);
-        }
+    if !(0..12).all(|k| is_unit(origin_in(table, k).quat)) {
+        return Err(Refusal::TableQuaternion);
     }
     Ok(())
-}
-
-// The checks of a table that is handed over by value: 21, then 22.
-pub fn check_table(table: [f64; 84]) -> Result<(), Refusal>
-    ensures { given result ≡ check_table ieee table }
-{
-    check_rows(&table)
 }

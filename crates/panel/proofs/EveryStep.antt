@@ -10,6 +10,7 @@ use lib.Ieee.{Float}
 use lib.ListN.{length, get_or, set, length-set}
 use lib.Seq.{get_or-set_same, get_or-set_other}
 use borrow.Author.Tests.{eq-eqb, ne_eqb}
+use Rattle.std.specs.Prelude.{Option, Some, None}
 use Rattle.answer.specs.Given.{Given, answered, refused, passed}
 use Rattle.answer.proofs.Given.{refused_answers_nothing}
 use Rattle.arithmetic.specs.Arith.{Arith}
@@ -19,12 +20,12 @@ use Rattle.set.specs.Set.{Set}
 use Rattle.dodecahedron.specs.Calls.{place_on, unplace_on}
 use Rattle.dodecahedron.specs.declared.place.Place.{Place}
 use Rattle.strike_records.specs.Record.{lon_lat_in, face_in}
+use Rattle.strike_records.specs.declared.record.Request.{Request}
+use Rattle.strike_records.specs.declared.record.Request.TheVariants as request
 use Rattle.panel.specs.Registers.{BLOCK, COMMAND, STATUS, MASK, INTERRUPT, ORIGIN, REFUSAL, INPUTS, FIRST, DONE, REFUSED}
 use Rattle.panel.specs.Registers.{interrupt, interrupt_anew, ended, done, placed, unplaced, refused_with}
 use Rattle.panel.specs.Step.{command_in, block_by, carried_out, check_step, unless_refused, panel, step_on}
 use Rattle.panel.specs.EveryStep.{Same, AfterCommand, AfterNothing, EveryStep, OfEveryStep}
-use Rattle.panel.specs.declared.registers.Command.{Command}
-use Rattle.panel.specs.declared.registers.Command.TheVariants as command
 use Rattle.panel.proofs.Passed.{step_passed}
 use Rattle.panel.proofs.Blocks.{written, written_length, written_before, written_refusal}
 use Rattle.panel.proofs.Blocks.{ended_length, ended_other, ended_command, ended_status, ended_line}
@@ -127,12 +128,12 @@ module _ (b : List ℕ) (long : length b ≡ BLOCK) where
 
 -- ---- by what the block asks for
 
--- a command that is carried out or refused
-abbrev Asks : Command → Type 0
-Asks command.Nothing = ⊥
-Asks (command.Place p) = Unit {0}
-Asks (command.Unplace f o) = Unit {0}
-Asks command.Unknown = Unit {0}
+-- a command that is carried out, or refused with 12
+abbrev Asks : Given (Option Request) → Type 0
+Asks (answered None) = ⊥
+Asks (answered (Some (request.Place p))) = Unit {0}
+Asks (answered (Some (request.Unplace f o))) = Unit {0}
+Asks (refused n) = n ≡ 12
 
 module _ (A : Arith) (b : List ℕ) where
   asks : (get_or b COMMAND 0 ≡ 0 → ⊥) → Asks (command_in A b)
@@ -142,33 +143,33 @@ module _ (A : Arith) (b : List ℕ) where
       by : (o p q : Bool) → o ≡ false →
           Asks
           (elim o [
-            | true ↦ command.Nothing
+            | true ↦ answered None
             | false ↦ elim p [
-              | true ↦ command.Place (lon_lat_in A b INPUTS)
-              | false ↦ elim q [ true ↦ command.Unplace (face_in A b INPUTS) (get_or b ORIGIN 0) | false ↦ command.Unknown ]
+              | true ↦ answered (Some (request.Place (lon_lat_in A b INPUTS)))
+              | false ↦ elim q [ true ↦ answered (Some (request.Unplace (face_in A b INPUTS) (get_or b ORIGIN 0))) | false ↦ refused 12 ]
             ]
           ])
       by true p q e = absurd (true≢false e)
       by false true q e = tt
       by false false true e = tt
-      by false false false e = tt
+      by false false false e = refl
 
-  asks_nothing : get_or b COMMAND 0 ≡ 0 → command_in A b ≡ command.Nothing
+  asks_nothing : get_or b COMMAND 0 ≡ 0 → command_in A b ≡ answered None
   unfolding command_in
   asks_nothing h = rw (eq-eqb (get_or b COMMAND 0) 0 h, command_in)
 
 module _ (A : Arith) (table : List Float) (s : Set) (b : List ℕ) where
-  carried_kept : length b ≡ BLOCK → (k : Command) → Kept b (carried_out A table s b k).block
-  carried_kept long command.Nothing = nothing_kept b long
-  carried_kept long (command.Place p) = (placed_ends b long (place_on A table s p).answer).kept
-  carried_kept long (command.Unplace f o) = (unplaced_ends b long (unplace_on A table s f o).answer).kept
-  carried_kept long command.Unknown = (refusal_ends b long 12).kept
+  carried_kept : length b ≡ BLOCK → (k : Given (Option Request)) → Kept b (carried_out A table s b k).block
+  carried_kept long (answered None) = nothing_kept b long
+  carried_kept long (answered (Some (request.Place p))) = (placed_ends b long (place_on A table s p).answer).kept
+  carried_kept long (answered (Some (request.Unplace f o))) = (unplaced_ends b long (unplace_on A table s f o).answer).kept
+  carried_kept long (refused n) = (refusal_ends b long n).kept
 
-  carried_after : length b ≡ BLOCK → (k : Command) → Asks k → AfterCommand b (carried_out A table s b k).block
-  carried_after long command.Nothing a = absurd a
-  carried_after long (command.Place p) a = (placed_ends b long (place_on A table s p).answer).after
-  carried_after long (command.Unplace f o) a = (unplaced_ends b long (unplace_on A table s f o).answer).after
-  carried_after long command.Unknown a = (refusal_ends b long 12).after
+  carried_after : length b ≡ BLOCK → (k : Given (Option Request)) → Asks k → AfterCommand b (carried_out A table s b k).block
+  carried_after long (answered None) a = absurd a
+  carried_after long (answered (Some (request.Place p))) a = (placed_ends b long (place_on A table s p).answer).after
+  carried_after long (answered (Some (request.Unplace f o))) a = (unplaced_ends b long (unplace_on A table s f o).answer).after
+  carried_after long (refused n) a = (refusal_ends b long n).after
 
   by_check : (g : Given (Unit {0})) → check_step A table s b ≡ g
       → EveryStep A table s b (unless_refused g (carried_out A table s b (command_in A b)) (panel b s)).block
@@ -189,7 +190,7 @@ module _ (A : Arith) (table : List Float) (s : Set) (b : List ℕ) where
         long = kept.long;
         command = λ p h. carried_after long (command_in A b) (asks A b h);
         nothing = λ p h.
-            subst (λ (k : Command). AfterNothing b (carried_out A table s b k).block) (sym (asks_nothing A b h)) (nothing_after b long);
+            subst (λ (k : Given (Option Request)). AfterNothing b (carried_out A table s b k).block) (sym (asks_nothing A b h)) (nothing_after b long);
       }
 
 pub of_every_step : OfEveryStep
@@ -231,11 +232,11 @@ module _ (b : List ℕ) (long : length b ≡ BLOCK) (n : ℕ) (above : 0 < n) wh
 module _ (A : Arith) (table : List Float) (s : Set) (b : List ℕ) (n : ℕ) (above : 0 < n) (known : n ≡ 12 → ⊥)
     (places : (p : LonLat) → (place_on A table s p).answer ≡ refused n → ⊥)
     (unplaces : (f : Face) (o : ℕ) → (unplace_on A table s f o).answer ≡ refused n → ⊥) where
-  carried_number : length b ≡ BLOCK → (k : Command) → Asks k → get_or (carried_out A table s b k).block REFUSAL 0 ≡ n → ⊥
-  carried_number long command.Nothing a e = absurd a
-  carried_number long (command.Place p) a e = places p (placed_number b long n above (place_on A table s p).answer e)
-  carried_number long (command.Unplace f o) a e = unplaces f o (unplaced_number b long n above (unplace_on A table s f o).answer e)
-  carried_number long command.Unknown a e = known (sym e ∙ refusal_byte b long 12)
+  carried_number : length b ≡ BLOCK → (k : Given (Option Request)) → Asks k → get_or (carried_out A table s b k).block REFUSAL 0 ≡ n → ⊥
+  carried_number long (answered None) a e = absurd a
+  carried_number long (answered (Some (request.Place p))) a e = places p (placed_number b long n above (place_on A table s p).answer e)
+  carried_number long (answered (Some (request.Unplace f o))) a e = unplaces f o (unplaced_number b long n above (unplace_on A table s f o).answer e)
+  carried_number long (refused m) a e = known (sym e ∙ refusal_byte b long m ∙ a)
 
   pub never_number : check_step A table s b ≡ passed → (get_or b COMMAND 0 ≡ 0 → ⊥) → get_or (step_on A table s b).left.block REFUSAL 0 ≡ n → ⊥
   never_number passes h = by (check_step A table s b) refl

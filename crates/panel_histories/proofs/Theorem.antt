@@ -7,7 +7,8 @@ use lib.Ieee.{Float}
 use native.Mathlib.Omega.{arith}
 use lib.ListN.{length, get_or, length-replicate}
 use borrow.Author.Tests.{eqb-true, eq-eqb, ne_eqb, not-false}
-use Rattle.answer.specs.Given.{Given, passed}
+use Rattle.std.specs.Prelude.{Option, Some}
+use Rattle.answer.specs.Given.{Given, answered, passed}
 use Rattle.answer.proofs.Given.{refuse_answered, then_answered, then_passed, then_pass}
 use Rattle.arithmetic.specs.Arith.{ieee}
 use Rattle.arithmetic.specs.Numbers.{0·0}
@@ -19,25 +20,25 @@ use Rattle.set.specs.Open.{open_given, new_set}
 use Rattle.set.specs.Sizes.{FRAME, FACE_STORE, SPHERE_STORE}
 use Rattle.set.proofs.Lengths.{Fits, set_passes}
 use Rattle.strike_records.specs.Record.{lon_lat_in, face_in}
+use Rattle.strike_records.specs.declared.record.Request.{Request}
+use Rattle.strike_records.specs.declared.record.Request.TheVariants as request
 use Rattle.panel.specs.Registers.{BLOCK, COMMAND, ORIGIN, INPUTS, check_block, placed, unplaced}
 use Rattle.panel.specs.Step.{command_in, carried_out, check_step, unless_refused, panel, step_on}
-use Rattle.panel.specs.declared.registers.Command.{Command}
-use Rattle.panel.specs.declared.registers.Command.TheVariants as command
 use Rattle.histories.specs.Lists.{Standing, standing, Call, step}
 use Rattle.histories.specs.Lists as lists
 use Rattle.histories.specs.EveryList.{SameAnswers, opened, left}
 use Rattle.histories.proofs.Left.{step_left}
 use Rattle.histories.proofs.Theorem.{every_list}
-use Rattle.opening.proofs.Lists.{run_then}
+use Rattle.opening.proofs.Lists.{left_then}
 use Rattle.panel_histories.specs.Events.{Event, host_writes, steps, calls, State, state, next}
 use Rattle.panel_histories.specs.EveryPanel.{AsNew, Ends, EachEnds, EveryPanel}
 
 -- ---- the command of a block
-place_asked : (b : List ℕ) → get_or b COMMAND 0 ≡ 1 → command_in ieee b ≡ command.Place (lon_lat_in ieee b INPUTS)
+place_asked : (b : List ℕ) → get_or b COMMAND 0 ≡ 1 → command_in ieee b ≡ answered (Some (request.Place (lon_lat_in ieee b INPUTS)))
 unfolding command_in
 place_asked b e = rw (ne_eqb (get_or b COMMAND 0) 0 (λ z. omega (arith, z, e)), eq-eqb (get_or b COMMAND 0) 1 e, command_in)
 
-unplace_asked : (b : List ℕ) → get_or b COMMAND 0 ≡ 2 → command_in ieee b ≡ command.Unplace (face_in ieee b INPUTS) (get_or b ORIGIN 0)
+unplace_asked : (b : List ℕ) → get_or b COMMAND 0 ≡ 2 → command_in ieee b ≡ answered (Some (request.Unplace (face_in ieee b INPUTS) (get_or b ORIGIN 0)))
 unfolding command_in
 unplace_asked b e =
     let asked = get_or b COMMAND 0 in
@@ -82,11 +83,13 @@ module _ (table : List Float) (n : Set) (ready : open_given ieee table n ≡ pas
   check_new b = then_pass (check_block b) (check_with ieee table new) new_passes
 
   -- what a step leaves there
-  left_new : (b : List ℕ) (k : Command) → length b ≡ BLOCK → command_in ieee b ≡ k → (step_on ieee table new b).left.block ≡ (carried_out ieee table new b k).block
+  left_new : (b : List ℕ) (k : Given (Option Request)) → length b ≡ BLOCK → command_in ieee b ≡ k
+      → (step_on ieee table new b).left.block ≡ (carried_out ieee table new b k).block
   left_new b k long asked =
       let carried = carried_out ieee table new b in
       let passes = check_new b ∙ block_passes b long in
-      ap (λ (g : Given (Unit {0})). (unless_refused g (carried (command_in ieee b)) (panel b new)).block) passes ∙ ap (λ (c : Command). (carried c).block) asked
+      ap (λ (g : Given (Unit {0})). (unless_refused g (carried (command_in ieee b)) (panel b new)).block) passes
+      ∙ ap (λ (c : Given (Option Request)). (carried c).block) asked
 
   as_new : (s : Set) (b : List ℕ) → SameAnswers table s new → AsNew table s new b
   as_new s b same =
@@ -104,13 +107,13 @@ module _ (t : List Float) (b : Set) (ready : open_given ieee t b ≡ passed) whe
   each_from cs d e [] = tt
   each_from cs d e (host_writes block ∷ es) = (tt, each_from cs (state block d.standing) e es)
   each_from cs d e (calls c ∷ es) =
-      let after = run_then (opened t b) cs c ∙ ap (λ (s : Standing). step s c) e in
+      let after = left_then t b cs c e in
       (tt, each_from (cs ++ c ∷ []) (next d (calls c)) after es)
   each_from cs d e (steps ∷ es) =
       let s = d.standing in
       let call = lists.steps d.block in
       let here = sym (ap (λ (u : Set). standing s.table u) (step_left s.table s.set d.block)) in
-      let after = run_then (opened t b) cs call ∙ ap (λ (x : Standing). step x call) e ∙ here in
+      let after = left_then t b cs call e ∙ here in
       let Claim : Standing → Type 0 = λ x. (n : Set) → open_given ieee x.table n ≡ passed → SameAnswers x.table x.set (opened x.table n).set in
       let same = subst Claim e (every_list t b ready cs).answers in
       (λ n h. as_new s.table n h s.set d.block (same n h), each_from (cs ++ call ∷ []) (next d steps) after es)

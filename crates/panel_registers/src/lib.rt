@@ -4,7 +4,7 @@
 ghost use Rattle.std.specs.Prelude.{◌≡◌};
 ghost use Rattle.answer.specs.Answer.{given};
 ghost use Rattle.arithmetic.specs.Arith.{ieee};
-ghost use Rattle.panel.specs.Registers.{check_block, shared, interrupt as Registers·interrupt, interrupt_anew};
+ghost use Rattle.panel.specs.Registers.{shared, interrupt as Registers·interrupt, interrupt_anew};
 ghost use Rattle.panel.specs.Registers.{ended, done as Registers·done, placed, unplaced, refused_with};
 ghost use Rattle.panel.specs.Step.{command_in};
 
@@ -12,30 +12,44 @@ use answer::Refusal;
 use big_endian::write_double;
 use coordinates::lonlat::LonLat;
 use dodecahedron::place::Place;
-use panel::registers::{BLOCK, Command};
-use strike_records::record::{face, lon_lat};
+use panel::registers::BLOCK;
+use strike_records::record::{Request, face, lon_lat};
 
-// 23: the block has 32 bytes.
-#[tactic(auto, unfolding(panel::specs::Registers::check_block))]
-pub fn check_block(block: &[u8]) -> Result<(), Refusal>
-    ensures { given result ≡ check_block block.now }
-{
-    if block.len() != BLOCK {
-        return Err(Refusal::BlockLength);
-    }
-    Ok(())
-}
+// What stands where in the block, by the names of `panel`'s specs/Registers: the command, its status, the mask of the status bits, the interrupt
+// line, the origin, the refusal's number; where the two inputs begin, and where each of the two results does.
+const COMMAND: usize = 0;
 
-// The command that a block holds, with its inputs.
+const STATUS: usize = 1;
+
+const MASK: usize = 2;
+
+const INTERRUPT: usize = 3;
+
+const ORIGIN: usize = 4;
+
+const REFUSAL: usize = 5;
+
+const INPUTS: usize = 8;
+
+const FIRST: usize = 16;
+
+const SECOND: usize = 24;
+
+// The status behind a command: bit 0 done, bit 1 refused.
+const DONE: u8 = 1;
+
+const REFUSED: u8 = 2;
+
+// What a block asks for, with its inputs: nothing, place, or unplace on an origin; 12: a command that there isn't.
 #[tactic(auto, unfolding(panel::specs::Step::command_in))]
-pub fn asked(block: &[u8; BLOCK]) -> Command
-    ensures { result ≡ command_in ieee block.now }
+pub fn asked(block: &[u8; BLOCK]) -> Result<Option<Request>, Refusal>
+    ensures { given result ≡ command_in ieee block.now }
 {
-    match block[0] {
-        0 => Command::Nothing,
-        1 => Command::Place(lon_lat(block, 8)),
-        2 => Command::Unplace(face(block, 8), block[4]),
-        _ => Command::Unknown,
+    match block[COMMAND] {
+        0 => Ok(None),
+        1 => Ok(Some(Request::Place(lon_lat(block, INPUTS)))),
+        2 => Ok(Some(Request::Unplace(face(block, INPUTS), block[ORIGIN]))),
+        _ => Err(Refusal::RecordKind),
     }
 }
 
@@ -62,8 +76,8 @@ fn interrupt(status: u8, mask: u8) -> u8
 pub fn write_interrupt(block: &mut [u8; BLOCK])
     ensures { block.new ≡ interrupt_anew block.old }
 {
-    let line = interrupt(block[1], block[2]);
-    block[3] = line;
+    let line = interrupt(block[STATUS], block[MASK]);
+    block[INTERRUPT] = line;
 }
 
 // The end of a command: no command, its status, and the interrupt byte for that.
@@ -71,10 +85,10 @@ pub fn write_interrupt(block: &mut [u8; BLOCK])
 fn end(block: &mut [u8; BLOCK], status: u8)
     ensures { block.new ≡ ended status block.old }
 {
-    let line = interrupt(status, block[2]);
-    block[0] = 0;
-    block[1] = status;
-    block[3] = line;
+    let line = interrupt(status, block[MASK]);
+    block[COMMAND] = 0;
+    block[STATUS] = status;
+    block[INTERRUPT] = line;
 }
 
 // A command that is done: its two results, and no refusal.
@@ -82,10 +96,10 @@ fn end(block: &mut [u8; BLOCK], status: u8)
 fn done(block: &mut [u8; BLOCK], x: f64, y: f64)
     ensures { block.new ≡ Registers·done x y block.old }
 {
-    block[5] = 0;
-    write_double(block, 16, x);
-    write_double(block, 24, y);
-    end(block, 1);
+    block[REFUSAL] = 0;
+    write_double(block, FIRST, x);
+    write_double(block, SECOND, y);
+    end(block, DONE);
 }
 
 // Place's answer: the origin's id, and the face point.
@@ -93,7 +107,7 @@ fn done(block: &mut [u8; BLOCK], x: f64, y: f64)
 pub fn write_place(block: &mut [u8; BLOCK], place: Place)
     ensures { block.new ≡ placed place block.old }
 {
-    block[4] = place.origin;
+    block[ORIGIN] = place.origin;
     done(block, place.face.0.x, place.face.0.y);
 }
 
@@ -104,10 +118,11 @@ pub fn write_lon_lat(block: &mut [u8; BLOCK], lonlat: LonLat)
     done(block, lonlat.longitude.0, lonlat.latitude.0);
 }
 
-// A refusal: its number; results and origin stay. Any number is written, as the definition has it.
+// A refusal: its number; results and origin stay. A number, not a Refusal: the clause holds for every number, and a narrower type would
+// ask more of a caller.
 pub fn write_refusal(block: &mut [u8; BLOCK], number: u8)
     ensures { block.new ≡ refused_with number block.old }
 {
-    block[5] = number;
-    end(block, 2);
+    block[REFUSAL] = number;
+    end(block, REFUSED);
 }

@@ -59,11 +59,6 @@ check_list A table s positions results =
     and_then (check_with A table s)
     (check_counts positions results)
 
--- how many positions are placed: all, or none by a call that is refused
-abbrev pub turns_of : Given (Unit {0}) → ℕ → ℕ
-turns_of (answered u) n = n
-turns_of (refused c) n = 0
-
 -- what the call comes to: passed or refused, and the results and the set that it leaves
 pub record Called : Type 0 where
   pub answer : Given (Unit {0})

@@ -1,4 +1,5 @@
-// Changes of coordinates in the plane of a face, polar and barycentric, with the Rust's order of operations.
+// Changes of coordinates in the plane of a face, polar and barycentric, with the Rust's order of operations. Why an angle that is not outside
+// is of no type, sine_inside says.
 #![tactic(auto)]
 
 ghost use Rattle.std.specs.Prelude.{◌≡◌, false};

@@ -23,7 +23,7 @@ use triangles::triangles::take_face;
 fn take_used(on: OnOrigin<'_>, polar: Polar) -> Result<Used, Refusal>
     ensures { given result ≡ used_for ieee on.entry.origin.origin (seen on.entry.set) on.entry.id polar }
 {
-    let index = get_face_triangle_index(polar) as u8;
+    let index = get_face_triangle_index(polar);
     let reflected = should_reflect(polar);
     let slot = sphere_slot(on.id, index, reflected);
     let source = source_slot(index, reflected);
@@ -38,8 +38,8 @@ fn take_used(on: OnOrigin<'_>, polar: Polar) -> Result<Used, Refusal>
     })
 }
 
-// The triangles of a point about an origin's axis, on any set: 1 to 4 are tried here too, so that
-// none has to be asked for. The origin has the number id.
+// The triangles of a point about an origin's axis, on any set. No `OnOrigin` is taken, which would ask of a caller that the set passed: 1 to 4
+// are tried here. The origin has the number id.
 pub fn take(set: SetRef<'_>, origin: SoundOrigin, id: u8, polar: Polar) -> Result<Taken, Refusal>
     ensures { given result ≡ taken_for ieee origin.origin (seen set.entry) id polar }
 {

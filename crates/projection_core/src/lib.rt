@@ -14,7 +14,6 @@ use coordinates::base::Radians;
 use coordinates::coords::{Cartesian, Face, SphericalTriangle};
 use coordinates::polar::Polar;
 use coordinates::spherical::Spherical;
-use coordinates::vec3::Vec3;
 use dodecahedron::work::Work;
 use equal_area::equal_area::TriangleConstants;
 use origin::utils::Origin;
@@ -22,18 +21,14 @@ use plane::to_polar;
 use point_triangles::take;
 use set::on_origin::OnOrigin;
 use transforms::coordinate_transforms::{to_cartesian, to_spherical};
+use triangles::triangles::read_vector;
 
 // Row k of a frame.
 fn row(frame: &[f64], k: usize) -> Cartesian
     requires { k * 3 + 3 ≤ length frame.now }
     ensures { result ≡ row_at frame.now k }
 {
-    let at = k * 3;
-    Cartesian(Vec3 {
-        x: frame[at],
-        y: frame[at + 1],
-        z: frame[at + 2],
-    })
+    read_vector(&frame[k * 3..k * 3 + 3])
 }
 
 // The constants of the canonical triangle: centre, midpoint and vertex of origin 0.
@@ -63,8 +58,8 @@ fn polar_about(origin: Origin, v: Cartesian) -> Polar
     }
 }
 
-// Forward on an origin: the triangles of the point, and the point from one to the
-// other by equal areas.
+// Forward on an origin: the triangles of the point, and the point from one to the other by equal areas. Why a point whose angles are not
+// outside is of no type, nearest says.
 pub fn forward_core(on: OnOrigin<'_>, spherical: Spherical) -> Result<Work<Face>, Refusal>
     requires { (outside spherical.theta.0 ≡ false) × (outside spherical.phi.0 ≡ false) }
     ensures { given result ≡ forward_core ieee on.entry.origin.origin (seen on.entry.set) spherical on.entry.id }

@@ -1,6 +1,4 @@
--- The contracts of `copy_in`, of the work and of `write_out` together are a region's.
---     same_call          the work on the copied positions is the work on the positions: they are the same, or there are more than 256, and then
---                        the call is refused before it looks at them
+-- The contracts of the work and of `write_out` together are a region's.
 --     region_refused     a refused call leaves the points and the set
 --     region_answered    what is written out is what the call leaves in the points
 -- Assumes nothing.
@@ -9,7 +7,6 @@ use native.Mathlib.Nat.{min-eq_left, le_of_eq}
 use mathlib.Core.Bool.{true≢false}
 use mathlib.Core.List.{append-nil}
 use lib.ListN.{drop_of_length-le}
-use lib.Seq.{take_all}
 use borrow.Author.Tests.{ltb-false, eqb-true, not-false}
 use Rattle.answer.specs.Given.{Given, answered, refused, passed}
 use Rattle.answer.proofs.Given.{refused_answers_nothing, refuse_answered, then_answered}
@@ -23,25 +20,13 @@ use Rattle.region_work.specs.declared.region.Region.{Region}
 use Rattle.region_work.specs.declared.region.Outline.{Outline}
 use Rattle.region_work.specs.Region.{check_positions, RegionCalled, region_called, region_left, region_given, region_on}
 use Rattle.region_work.specs.Parts.{outlined, region_worked}
-use Rattle.region_work.proofs.Whole.{any_positions}
-use Rattle.region_copies.specs.Copies.{CopiedIn, written_out}
+use Rattle.region_copies.specs.Copies.{written_out}
 
 or_false : (t u : Bool) → t || u ≡ false → u ≡ false
 or_false true u e = absurd (true≢false e)
 or_false false u e = e
 
 module _ (table : List Float) (s : Set) (ps : List LonLat) (rs : List Face) where
-  abbrev work_on : List LonLat → RegionCalled
-  work_on l = region_worked ieee table s l (length ps) (length rs)
-
-  -- the work on the positions l, which are ps as far as they count
-  same_call : (l : List LonLat) → l ≡ take 256 ps → work_on l ≡ work_on ps
-  same_call l e = by (ltb 256 (length ps)) refl
-    where
-      by : (t : Bool) → ltb 256 (length ps) ≡ t → work_on l ≡ work_on ps
-      by true many = any_positions ieee table s l ps (length ps) (length rs) many
-      by false few = ap work_on (e ∙ take_all 256 ps (ltb-false 256 (length ps) few))
-
   abbrev is : Given Region
   is = region_given ieee table s ps (length ps) (length rs)
 
@@ -74,13 +59,11 @@ module _ (table : List Float) (s : Set) (ps : List LonLat) (rs : List Face) wher
       ∙ ap (λ (l : List Face). take (length ps) xs ++ l) (drop_of_length-le rs {i = length ps} (le_of_eq (sym f.places)))
       ∙ append-nil (take (length ps) xs)
 
-  -- ---- xs are the copied positions, g what the work came to, and s' the set that is left
-  module _ (xs : List LonLat) (s' : Set) (g : Given Outline) (copied : CopiedIn ps xs)
-      (says : outlined g (length ps) s' ≡ region_worked ieee table s (take (length ps) xs) (length ps) (length rs)) where
-    -- the work on the positions themselves
+  -- ---- g is what the work came to, and s' the set that is left
+  module _ (s' : Set) (g : Given Outline) (says : outlined g (length ps) s' ≡ region_worked ieee table s ps (length ps) (length rs)) where
     left : outlined g (length ps) s' ≡ region_left is in_turn [] s
     unfolding region_worked
-    left = says ∙ same_call (take (length ps) xs) copied
+    left = says
 
     pub region_refused : (n : ℕ) (r : Given Region) → g ≡ refused n → r ≡ refused n → region_called r rs s' ≡ region_on ieee table s ps rs
     region_refused n r e er = rw er (by is (sym (ap (λ (g : Given Outline). outlined g (length ps) s') e) ∙ left))

@@ -1,5 +1,5 @@
-// A region on one face (document 02, Paper 4), on lent slices: crate region_copies copies the positions in and the points out, and
-// crate region_core works the region out.
+// A region on one face (document 02, Paper 4), on lent slices: crate region_core works the region out, and crate region_copies
+// copies the points out.
 #![tactic(auto)]
 
 ghost use Rattle.std.specs.Prelude.{◌≡◌};
@@ -12,7 +12,7 @@ use answer::Refusal;
 use coordinates::coords::Face;
 use coordinates::lonlat::LonLat;
 use nearest::origins::Origins;
-use region_copies::{copy_in, write_out};
+use region_copies::write_out;
 use region_core::work::work;
 use region_work::region::Region;
 use set::set::Set;
@@ -31,9 +31,7 @@ pub fn region<O: Origins>(
     ensures outlined { region_called (given result) points.new (held set.new)
         ≡ region_on ieee (O.table origins) (held set.old) positions.now points.old }
 {
-    let n = positions.len();
-    let outline = copy_in(positions);
-    let done = work(&origins, set, outline, n, points.len())?;
-    write_out(points, done.points, n);
+    let done = work(&origins, set, positions, points.len())?;
+    write_out(points, done.points, positions.len());
     Ok(done.region)
 }

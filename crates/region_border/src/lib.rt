@@ -11,8 +11,8 @@ use answer::Refusal;
 use caption_box::CaptionBox;
 use region_work::region::Region;
 
-// What C is told of a region: 0, and the origin and the box are written where they are lent for, or the number of the refusal, and
-// nothing is written.
+// What C is told of a region: 0, and the origin and the box are written to the places lent for them, or the number of the refusal, and
+// nothing is written. Alike in `border::answers`, of another answer and other places: one for both would be lent what writes them.
 pub fn put_region(outcome: Result<Region, Refusal>, origin: &mut u8, caption: &mut CaptionBox) -> u8
     ensures { Returns (given outcome) result (contents_of origin caption) origin_and_box }
 {

@@ -1,2 +1,2 @@
--- What is copied between a lent slice and an array. Definitions only.
+-- What is copied from an array to a lent slice. Definitions only.
 pub mod Copies

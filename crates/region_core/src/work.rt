@@ -1,11 +1,11 @@
-// The region call on plain values: its refusals, the survey, and the stores, which are written only where it answers.
-ghost use Rattle.std.specs.Prelude.{◌≤◌, ◌≡◌, take};
+// The region call but for the points that are lent: its refusals, the survey, and the stores, which are written only where it answers.
+ghost use Rattle.std.specs.Prelude.{◌≡◌, length};
 ghost use Rattle.answer.specs.Answer.{given};
 ghost use Rattle.arithmetic.specs.Arith.{ieee};
 ghost use Rattle.set.specs.Lent.{seen, held, SameBuffers};
 ghost use Rattle.place_list.specs.Lists.{placed_in_turn};
 ghost use Rattle.region_work.specs.Region.{check_positions};
-ghost use Rattle.region_work.specs.Parts.{check_region, judged, kept, outlined, region_worked};
+ghost use Rattle.region_work.specs.Parts.{check_region, judged, outlined, region_worked};
 
 use crate::survey::survey;
 use answer::Refusal;
@@ -52,45 +52,38 @@ fn judge(seen: Seen) -> Result<Region, Refusal>
     })
 }
 
-// Places the first n positions in turn, if a slot that one of them uses is empty; otherwise that would write nothing. What place
-// answers was looked at before.
+// Places the positions in turn. What place answers was looked at before.
 #[tactic(auto, using(region_work::proofs::Loops::keep_goes))]
-fn keep<O: Origins>(
-    pending: bool,
-    origins: &O,
-    set: &mut Set<'_>,
-    positions: [LonLat; 256],
-    n: usize,
-)
-    requires { n ≤ 256 }
+fn keep<O: Origins>(origins: &O, set: &mut Set<'_>, positions: &[LonLat])
     ensures same { SameBuffers set.old set.new }
     ensures left { held set.new
-        ≡ kept pending (placed_in_turn ieee (O.table origins.now) (held set.old) (take n positions)) (held set.old) }
+        ≡ (placed_in_turn ieee (O.table origins.now) (held set.old) positions.now).set }
 {
-    if pending {
-        for i in 0..n {
-            let _ = place(*origins, set, positions[i]);
-        }
+    for position in positions {
+        let _ = place(*origins, set, *position);
     }
 }
 
-// A region: the first n of the positions are the outline, and m point places are lent.
+// A region: the positions are the outline, and m point places are lent.
 pub fn work<O: Origins>(
     origins: &O,
     set: &mut Set<'_>,
-    positions: [LonLat; 256],
-    n: usize,
+    positions: &[LonLat],
     m: usize,
 ) -> Result<Outline, Refusal>
     ensures same { SameBuffers set.old set.new }
-    ensures worked { outlined (given result) n (held set.new)
-        ≡ region_worked ieee (O.table origins.now) (held set.old) (take n positions) n m }
+    ensures worked { outlined (given result) (length positions.now) (held set.new)
+        ≡ region_worked ieee (O.table origins.now) (held set.old) positions.now (length positions.now) m }
 {
-    check_region(origins, set.view(), n, m)?;
-    let found = survey(origins, set.view(), positions, n)?;
+    let view = set.view();
+    check_region(origins, view, positions.len(), m)?;
+    let found = survey(origins, view, positions)?;
     let seen = found.seen;
     let region = judge(seen)?;
-    keep(seen.pending, origins, set, positions, n);
+    // where no slot that they use is empty, placing them would write nothing
+    if seen.pending {
+        keep(origins, set, positions);
+    }
     let points = found.points;
     Ok(Outline { region, points })
 }

@@ -10,6 +10,7 @@ use lib.Dec.{eqb}
 use lib.Ieee.{Float}
 use lib.ListN.{length, get_or}
 use borrow.Author.Tests.{eqb-true, eq-eqb}
+use Rattle.std.proofs.lemmas.Bool.{and_parts, not-false}
 use Rattle.answer.specs.Given.{answered, passed}
 use Rattle.answer.proofs.Given.{refuse_answered, then_answered}
 use Rattle.arithmetic.specs.Arith.{Arith}
@@ -29,28 +30,19 @@ use Rattle.region_work.specs.Region.{check_positions, first_failing, first_origi
 
 -- ---- lists of results
 
-both : (a b : Bool) → (a && b) ≡ true → (a ≡ true) × (b ≡ true)
-both true b e = (refl, e)
-both false true e = (e, refl)
-both false false e = (e, e)
-
-was_not : (b : Bool) → not b ≡ false → b ≡ true
-was_not true e = refl
-was_not false e = absurd (true≢false e)
-
 none_failing : (rs : List PlaceResult) (i : ℕ) (r : PlaceResult) → first_failing rs ≡ passed → i < length rs → (get_or rs i r).refusal ≡ 0
 none_failing [] i r e h = absurd (not-suc-le-zero h)
 none_failing (q ∷ rs) zero r e h =
     let first = refuse_answered (not (eqb q.refusal 0)) q.refusal (first_failing rs) tt e in
-    eqb-true q.refusal 0 (was_not (eqb q.refusal 0) first.0)
+    eqb-true q.refusal 0 (not-false (eqb q.refusal 0) first.0)
 none_failing (q ∷ rs) (suc i) r e h =
     let first = refuse_answered (not (eqb q.refusal 0)) q.refusal (first_failing rs) tt e in
     none_failing rs i r first.1 (le_of_suc-le-suc h)
 
 all_on_lem : (o : ℕ) (rs : List PlaceResult) (i : ℕ) (r : PlaceResult) → all_on o rs ≡ true → i < length rs → (get_or rs i r).origin ≡ o
 all_on_lem o [] i r e h = absurd (not-suc-le-zero h)
-all_on_lem o (q ∷ rs) zero r e h = sym (eqb-true o q.origin (both (eqb o q.origin) (all_on o rs) e).0)
-all_on_lem o (q ∷ rs) (suc i) r e h = all_on_lem o rs i r (both (eqb o q.origin) (all_on o rs) e).1 (le_of_suc-le-suc h)
+all_on_lem o (q ∷ rs) zero r e h = sym (eqb-true o q.origin (and_parts (eqb o q.origin) (all_on o rs) e).0)
+all_on_lem o (q ∷ rs) (suc i) r e h = all_on_lem o rs i r (and_parts (eqb o q.origin) (all_on o rs) e).1 (le_of_suc-le-suc h)
 
 module _ (A : Arith) (table : List Float) (s : Set) where
   -- ---- a region that answers
@@ -83,7 +75,7 @@ module _ (A : Arith) (table : List Float) (s : Set) where
     unfolding check_origins
     one_face i q h =
         let on = all_on (first_origin results) results in
-        let same = was_not on (refuse_answered (not on) 16 passed tt all_passed.1).0 in (
+        let same = not-false on (refuse_answered (not on) 16 passed tt all_passed.1).0 in (
           none_failing results i q all_passed.0 h,
           all_on_lem (first_origin results) results i q same h ∙ ap (λ (d : Region). d.origin) all_passed.2,
         )

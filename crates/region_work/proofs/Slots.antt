@@ -1,14 +1,13 @@
 -- The slots that a position uses: nothing is written where none is empty. Assumes nothing.
-use mathlib.Core.Path.{◌≡◌, refl, sym, ap, ◌∙◌}
+use mathlib.Core.Path.{◌≡◌, refl, ap, ◌∙◌}
 use mathlib.Core.Bool.{Bool, true, false, not, ◌||◌, true≢false}
 use mathlib.Core.List.{List}
-use Prim.Native.Nat.{ℕ, ◌*◌, ◌<◌}
-use native.Mathlib.Omega.{arith}
+use Prim.Native.Nat.{ℕ, ◌*◌}
 use lib.Ieee.{Float}
 use Rattle.arithmetic.specs.Arith.{Arith}
 use Rattle.set.specs.Sizes.{FACE_WIDTH, SPHERE_WIDTH}
 use Rattle.set.specs.Set.{Set}
-use Rattle.stores.specs.Slots.{filled, face_slot, source_slot, sphere_slot}
+use Rattle.stores.specs.Slots.{filled, face_slot, source_slot}
 use Rattle.stores.specs.Used.{face_written, faces_written, sphere_written, used_written}
 use Rattle.stores.specs.declared.used.Used.{Used}
 use Rattle.stores.proofs.Written.{full_stays}

@@ -8,6 +8,7 @@ use Prim.Native.Nat.{ℕ}
 use lib.Dec.{eqb}
 use lib.Ieee.{Float}
 use borrow.Author.Tests.{eq-eqb}
+use Rattle.std.proofs.lemmas.Bool.{or_parts}
 use Rattle.answer.specs.Given.{Given, answered, refused, passed, and_then, bind}
 use Rattle.answer.proofs.Given.{refuse_answered}
 use Rattle.arithmetic.specs.Arith.{Arith}
@@ -177,13 +178,9 @@ module _ (A : Arith) (table : List Float) (s : Set) where
   unfolding any_empty placed_one
   in_turn_kept [] e = refl
   in_turn_kept (p ∷ ps) e =
-      let none = neither (empty_in (used_of (place_given A table s p))) (any_empty ps) e in
+      let none = or_parts (empty_in (used_of (place_given A table s p))) (any_empty ps) e in
       ap (λ (t : Set). (placed_in_turn A table t ps).set) (kept_by (used_of (place_given A table s p)) none.0) ∙ in_turn_kept ps none.1
     where
-      neither : (a b : Bool) → (a || b) ≡ false → (a ≡ false) × (b ≡ false)
-      neither true b e = absurd (true≢false e)
-      neither false b e = (refl, e)
-
       kept_by : (g : Given Used) → empty_in g ≡ false → set_used A s g ≡ s
       kept_by (refused n) e = refl
       kept_by (answered u) e = nothing_written A s u e

@@ -93,7 +93,8 @@ module _ (A : Arith) where
     unfolding face_written
     face_still j =
         face_as (face_written A xs k) j
-        ∙ still_taken FACE_WIDTH xs k (face_run (face_triangle A k)) refl (omega arith) j face_read (face_triangle A j) (λ e empty. ap (face_triangle A) (sym e))
+        ∙ still_taken FACE_WIDTH xs k (face_run (face_triangle A k)) refl (omega arith) j face_read (face_triangle A j)
+        (λ e empty. ap (face_triangle A) (sym e))
         ∙ sym (face_as xs j)
 
   module _ (xs : List Float) (i : ℕ) (long : length xs ≡ FACE_STORE) (small : i < 10) where

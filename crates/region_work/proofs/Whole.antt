@@ -2,12 +2,12 @@
 use mathlib.Core.Path.{◌≡◌, refl, sym, ap, ◌∙◌}
 use mathlib.Core.Bool.{Bool, true, false, ◌||◌, true≢false}
 use mathlib.Core.List.{List, [], ◌∷◌}
-use Prim.Native.Nat.{ℕ, zero, suc, ◌≤◌}
-use native.Mathlib.Omega.{arith}
+use Prim.Native.Nat.{ℕ, ◌≤◌}
 use lib.Dec.{eqb, ltb}
 use lib.Ieee.{Float}
 use lib.ListN.{length, take}
 use borrow.Author.Tests.{ltb-false}
+use Rattle.std.proofs.lemmas.Bool.{or_parts}
 use Rattle.answer.specs.Given.{Given, answered, refused, passed, refuse_if, and_then, bind}
 use Rattle.answer.proofs.Given.{refuse_answered, then_answered}
 use Rattle.arithmetic.specs.Arith.{Arith}
@@ -27,15 +27,11 @@ use Rattle.region_work.proofs.Surveyed.{any_empty, known, survey_known, in_turn_
 
 -- ---- how many positions there are
 
-neither : (a b : Bool) → (a || b) ≡ false → (a ≡ false) × (b ≡ false)
-neither true b e = absurd (true≢false e)
-neither false b e = (refl, e)
-
 -- 15 passed: there is one, and there are no more than 256
 counted : (n : ℕ) → check_positions n ≡ passed → (eqb n 0 ≡ false) × (n ≤ 256)
 unfolding check_positions
 counted n e =
-    let both = neither (eqb n 0) (ltb 256 n) (refuse_answered _ 15 passed tt e).0 in
+    let both = or_parts (eqb n 0) (ltb 256 n) (refuse_answered _ 15 passed tt e).0 in
     (both.0, ltb-false 256 n both.1)
 
 pub few : (A : Arith) (table : List Float) (s : Set) (n m : ℕ) → check_region A table s n m ≡ passed → (eqb n 0 ≡ false) × (n ≤ 256)
@@ -45,10 +41,9 @@ few A table s n m e =
     counted n (then_answered (check_positions n) (check_counts n m) tt set.1).0
 
 -- the first of them
-pub some : (n : ℕ) (ps : List LonLat) → eqb n 0 ≡ false → length ps ≡ 256 → (p : LonLat) × (qs : List LonLat) × (take n ps ≡ p ∷ qs)
-some zero ps e l = absurd (true≢false e)
-some (suc n) [] e l = absurd (omega (arith, l))
-some (suc n) (p ∷ ps) e l = (p, take n ps, refl)
+pub some : (ps : List LonLat) → eqb (length ps) 0 ≡ false → (p : LonLat) × (qs : List LonLat) × (ps ≡ p ∷ qs)
+some [] e = absurd (true≢false e)
+some (p ∷ ps) e = (p, ps, refl)
 
 -- ---- the answer
 
@@ -128,25 +123,3 @@ module _ (A : Arith) (table : List Float) (s : Set) (ps : List LonLat) (n m : �
       by : (b : Bool) → b ≡ any_empty A table s ps → kept b (placed_in_turn A table s ps) s ≡ (placed_in_turn A table s ps).set
       by true e = refl
       by false e = sym (in_turn_kept A table s ps (sym e))
-
--- ---- more than 256 positions are not looked at
-
-too_many : (A : Arith) (table : List Float) (s : Set) (n m : ℕ) → ltb 256 n ≡ true → (k : ℕ) × (check_region A table s n m ≡ refused k)
-unfolding check_region check_positions
-too_many A table s n m more = by (check_with A table s)
-  where
-    or_more : (a b : Bool) → b ≡ true → (a || b) ≡ true
-    or_more true b e = refl
-    or_more false b e = e
-
-    by : (g : Given (Unit {0})) → (k : ℕ)
-        × (and_then g (and_then (refuse_if (eqb n 0 || ltb 256 n) 15 passed) (check_counts n m)) ≡ refused k)
-    by (answered u) = (15, rw (or_more (eqb n 0) (ltb 256 n) more))
-    by (refused k) = (k, refl)
-
-pub any_positions : (A : Arith) (table : List Float) (s : Set) (ps qs : List LonLat) (n m : ℕ) → ltb 256 n ≡ true
-    → region_worked A table s ps n m ≡ region_worked A table s qs n m
-unfolding region_worked
-any_positions A table s ps qs n m more =
-    let wrong = too_many A table s n m more in
-    rw (refused_before A table s ps n m wrong.0 wrong.1, refused_before A table s qs n m wrong.0 wrong.1)

@@ -1,5 +1,4 @@
--- The region call on plain values, for the functions that it is made of: positions and points stand in arrays of 256, of which the first
--- n count. Definitions only.
+-- The region call by the functions that it is made of: the points stand in an array of 256, of which the first n count. Definitions only.
 use Rattle.std.specs.Prelude.{ℕ, Bool, false, cond, not, ◌||◌, List, [], ◌∷◌, ◌*◌, eqb, Float, take, Result}
 use Rattle.answer.specs.Given.{Given, answered, refused, refuse_if, and_then, bind}
 use Rattle.answer.specs.Answer.{given}

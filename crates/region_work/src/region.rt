@@ -9,7 +9,7 @@ pub struct Region {
     pub bounds: CaptionBox,
 }
 
-// An outline of n positions that answers: the region, and its face points, of which the first n count.
+// An outline of n positions that answers: the region, and its face points, of which the first n count (an array: there is no heap).
 #[derive(Clone, Copy)]
 pub struct Outline {
     pub region: Region,

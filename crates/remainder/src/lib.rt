@@ -30,7 +30,7 @@ fn joined(r: u64, g: u64) -> u64
     if r == 0 {
         return 0;
     }
-    let z = (u64::leading_zeros(r) as u64) - 11;
+    let z = u64::from(r.leading_zeros()) - 11;
     // a subnormal has the exponent of the smallest normal ones
     if g < z {
         return r << g;
@@ -70,7 +70,8 @@ fn of_sizes(a: f64, b: f64) -> f64
     }
 }
 
-// 1 with the sign of x. By bits and not by a branch, since signs come in no order.
+// 1 with the sign of x. By bits and not by a branch, since signs come in no order. Std's copysign takes no NaN for the sign, and
+// branches on the sign.
 fn unit(x: f64) -> f64
     ensures { result ≡ fin (negative x) 1 (pos 0) }
 {

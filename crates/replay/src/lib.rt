@@ -4,6 +4,5 @@
 
 pub mod function;
 pub mod outcome;
-pub mod pattern;
 pub mod record;
 pub mod report;

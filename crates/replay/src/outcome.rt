@@ -43,7 +43,7 @@ pub fn done(_nothing: ()) -> Outcome
     answered([None; 3])
 }
 
-// One answer.
+// One answer. Three functions for one to three: over their number, a clause would ask for at most three of them, and fill up with None.
 pub fn one(x: f64) -> Outcome
     ensures { result ≡ outcome_of 0 (Some (to_bits binary64 x)) None None }
 {
@@ -79,6 +79,13 @@ pub fn refused(number: u8) -> Outcome
         status: number,
         answers: [None; 3],
     }
+}
+
+// A record that asks for what is not there: 255, which is no call's refusal, so that the record is shown.
+pub fn nowhere() -> Outcome
+    ensures { result ≡ outcome_of 255 None None None }
+{
+    refused(255)
 }
 
 // What a call comes to: its refusal's number, or the outcome of what it gives.

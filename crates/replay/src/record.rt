@@ -6,8 +6,8 @@ ghost use Rattle.std.specs.Io.KnownBytes.{Consumes};
 ghost use Rattle.replay.specs.Record.{word_at, WellFormed};
 
 use crate::function::{Function, numbered};
-use crate::pattern::value;
 use crate::report;
+use big_endian::value;
 use std::io;
 use std::io::{Read, Write};
 
@@ -22,6 +22,7 @@ pub struct Head {
 }
 
 // A head, and room for twelve words: those of the arguments, and those of the answers behind them. The others are 0.
+// An array with how many count in the head: a vector would bring a failed allocation into each reading.
 #[derive(Clone, Copy)]
 pub struct Record {
     pub head: Head,

@@ -10,8 +10,9 @@ struct Arguments<'a>(&'a Record);
 
 impl fmt::Display for Arguments<'_> {
     fn fmt<W: fmt::Write>(&self, f: &mut fmt::Formatter<W>) -> fmt::Result {
-        for place in 0..self.0.head.arguments {
-            let bits = self.0.word(usize::from(place));
+        let count = usize::from(self.0.head.arguments);
+        for word in self.0.words.iter().take(count) {
+            let bits = u64::from_be_bytes(*word);
             write!(f, " {bits:016x}")?;
         }
         Ok(())

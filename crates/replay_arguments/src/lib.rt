@@ -2,8 +2,11 @@
 // answers.
 #![tactic(auto)]
 
-ghost use Rattle.std.specs.Prelude.{◌<◌};
+ghost use Rattle.std.specs.Prelude.{◌≡◌, false, IfOk};
+ghost use Rattle.elementary.specs.Sine.{outside};
 
+use answer::Refusal;
+use big_endian::value;
 use coordinates::base::{Degrees, Radians};
 use coordinates::coords::{Barycentric, Cartesian, Face, FaceTriangle};
 use coordinates::lonlat::LonLat;
@@ -12,22 +15,27 @@ use coordinates::spherical::Spherical;
 use coordinates::vec2::Vec2;
 use coordinates::vec3::Vec3;
 use replay::record::Record;
+use sine::is_outside;
 
 pub mod answers;
 
-// Two arguments, from a place on. The bound is for the sum of places alone: beyond its words a record answers 0.
-fn pair(record: &Record, place: usize) -> [f64; 2]
-    requires { place < 260 }
-{
-    [record.argument(place), record.argument(place + 1)]
+// So many arguments, from a place on. Beyond its twelve words a record has zeros.
+fn arguments<const N: usize>(record: &Record, place: usize) -> [f64; N] {
+    let mut arguments = [0.0; N];
+    for (argument, word) in arguments.iter_mut().zip(record.words.iter().skip(place)) {
+        *argument = value(u64::from_be_bytes(*word));
+    }
+    arguments
 }
 
-// Three arguments, from a place on.
-fn triple(record: &Record, place: usize) -> [f64; 3]
-    requires { place < 260 }
+// Refuses an angle that is outside, with 19. The callers of the functions that are replayed rule that out.
+pub fn inside(angle: Radians) -> Result<(), Refusal>
+    ensures { IfOk result (λ _. outside angle.0 ≡ false) }
 {
-    let [x, y] = pair(record, place);
-    [x, y, record.argument(place + 2)]
+    if is_outside(angle.0) {
+        return Err(Refusal::AngleOutside);
+    }
+    Ok(())
 }
 
 // The first argument, in degrees.
@@ -42,7 +50,7 @@ pub fn radians(record: &Record) -> Radians {
 
 // Longitude and latitude, the first two.
 pub fn lon_lat(record: &Record) -> LonLat {
-    let [longitude, latitude] = pair(record, 0);
+    let [longitude, latitude] = arguments::<2>(record, 0);
     LonLat {
         longitude: Degrees(longitude),
         latitude: Degrees(latitude),
@@ -51,7 +59,7 @@ pub fn lon_lat(record: &Record) -> LonLat {
 
 // Rho and gamma, the first two.
 pub fn polar(record: &Record) -> Polar {
-    let [rho, gamma] = pair(record, 0);
+    let [rho, gamma] = arguments::<2>(record, 0);
     Polar {
         rho,
         gamma: Radians(gamma),
@@ -60,7 +68,7 @@ pub fn polar(record: &Record) -> Polar {
 
 // Theta and phi, from a place on.
 pub fn spherical(record: &Record, place: u8) -> Spherical {
-    let [theta, phi] = pair(record, usize::from(place));
+    let [theta, phi] = arguments::<2>(record, usize::from(place));
     Spherical {
         theta: Radians(theta),
         phi: Radians(phi),
@@ -69,35 +77,28 @@ pub fn spherical(record: &Record, place: u8) -> Spherical {
 
 // u, v and w, the first three.
 pub fn barycentric(record: &Record) -> Barycentric {
-    let [u, v, w] = triple(record, 0);
+    let [u, v, w] = arguments::<3>(record, 0);
     Barycentric { u, v, w }
-}
-
-// x and y, from a place on.
-fn face_at(record: &Record, place: usize) -> Face
-    requires { place < 260 }
-{
-    let [x, y] = pair(record, place);
-    Face(Vec2 { x, y })
 }
 
 // A face point: x and y, from a place on.
 pub fn face(record: &Record, place: u8) -> Face {
-    face_at(record, usize::from(place))
+    let [x, y] = arguments::<2>(record, usize::from(place));
+    Face(Vec2 { x, y })
 }
 
 // A face triangle: x and y of a, b and c, from a place on.
 pub fn triangle(record: &Record, place: u8) -> FaceTriangle {
-    let at = usize::from(place);
+    let [ax, ay, bx, by, cx, cy] = arguments::<6>(record, usize::from(place));
     FaceTriangle {
-        a: face_at(record, at),
-        b: face_at(record, at + 2),
-        c: face_at(record, at + 4),
+        a: Face(Vec2 { x: ax, y: ay }),
+        b: Face(Vec2 { x: bx, y: by }),
+        c: Face(Vec2 { x: cx, y: cy }),
     }
 }
 
 // x, y and z, from a place on.
 pub fn cartesian(record: &Record, place: u8) -> Cartesian {
-    let [x, y, z] = triple(record, usize::from(place));
+    let [x, y, z] = arguments::<3>(record, usize::from(place));
     Cartesian(Vec3 { x, y, z })
 }

@@ -5,14 +5,15 @@
 
 mod lent;
 
+use answer::Refusal;
 use caption_box::CaptionBox;
 use coordinates::coords::Face;
-use replay::function::Function;
 use replay::outcome::{Outcome, done, three, told};
 use replay::record::Record;
+use replay_tally::table::{Entry, run};
 use std::io;
 
-// The box in a record's first five arguments: four sides, and 1.0 where it is empty.
+// The box in a record's first five arguments, each by its name: four sides, and 1.0 where it is empty.
 fn stored_box(record: &Record) -> CaptionBox {
     CaptionBox {
         least_x: record.argument(0),
@@ -28,17 +29,21 @@ fn stored_point(record: &Record) -> Face {
     replay_arguments::face(record, 5)
 }
 
-fn flag(empty: bool) -> f64 {
-    if empty { 1.0 } else { 0.0 }
-}
-
-// Two sides and whether the box is empty.
+// Two sides and whether the box is empty: x's here and y's below, a line each.
 fn x_sides(caption: CaptionBox) -> Outcome {
-    three(caption.least_x, caption.greatest_x, flag(caption.empty))
+    three(
+        caption.least_x,
+        caption.greatest_x,
+        f64::from(caption.empty),
+    )
 }
 
 fn y_sides(caption: CaptionBox) -> Outcome {
-    three(caption.least_y, caption.greatest_y, flag(caption.empty))
+    three(
+        caption.least_y,
+        caption.greatest_y,
+        f64::from(caption.empty),
+    )
 }
 
 // The half of a new box that the argument names: 0.0 is x, every other number y.
@@ -51,14 +56,9 @@ fn new_half(which: f64) -> Outcome {
     }
 }
 
-// What `take_in` comes to: its check (2), and the box afterwards in two halves.
-fn taken(record: &Record) -> Outcome {
-    let (given, caption) = lent::take_lent(stored_box(record), stored_point(record));
-    match record.head.number {
-        2 => told(given, done),
-        3 => x_sides(caption),
-        _ => y_sides(caption),
-    }
+// What `take_in` comes to: its check, and the box afterwards.
+fn taken(record: &Record) -> (Result<(), Refusal>, CaptionBox) {
+    lent::take_lent(stored_box(record), stored_point(record))
 }
 
 // What `grow` leaves in the box.
@@ -68,24 +68,14 @@ fn grown(record: &Record) -> CaptionBox {
     caption
 }
 
-// The outcome of a record's function.
-fn outcome(record: &Record) -> Outcome {
-    match record.head.number {
-        1 => new_half(record.argument(0)),
-        2..=4 => taken(record),
-        5 => x_sides(grown(record)),
-        _ => y_sides(grown(record)),
-    }
-}
-
 fn main(rt: HostRuntime) -> io::Result<()> {
-    let functions = [
-        Function::new("new_box", 1),
-        Function::new("take", 7),
-        Function::new("take_x", 7),
-        Function::new("take_y", 7),
-        Function::new("grow_x", 7),
-        Function::new("grow_y", 7),
+    let table = [
+        Entry::new("new_box", 1, |record| new_half(record.argument(0))),
+        Entry::new("take", 7, |record| told(taken(record).0, done)),
+        Entry::new("take_x", 7, |record| x_sides(taken(record).1)),
+        Entry::new("take_y", 7, |record| y_sides(taken(record).1)),
+        Entry::new("grow_x", 7, |record| x_sides(grown(record))),
+        Entry::new("grow_y", 7, |record| y_sides(grown(record))),
     ];
-    replay_tally::run(&mut rt.stdin(), &mut rt.stdout(), &functions, outcome)
+    run(rt.alloc(), &mut rt.stdin(), &mut rt.stdout(), &table)
 }

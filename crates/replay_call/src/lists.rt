@@ -5,30 +5,28 @@ use crate::mixed::mixed;
 use answer::bits;
 use place_list::PlaceResult;
 use replay::outcome::Outcome;
-use replay_lent::lists::{Listed, MOST};
+use replay_lent::lists::{BLANK, Listed, MOST};
 
-// What a result holds before a call.
+// The results before a call.
 pub fn blank() -> [PlaceResult; MOST]
     ensures { length result ≡ 400 }
 {
-    [PlaceResult {
-        refusal: 165,
-        origin: 90,
-        x: 0.5,
-        y: -0.5,
-    }; MOST]
+    [BLANK; MOST]
 }
 
 // All results, also those that no call may write.
 fn mixed_results(results: &[PlaceResult]) -> u64 {
-    let mut mix: u64 = 0;
-    for result in results {
-        mix = mixed(mix, u64::from(result.refusal));
-        mix = mixed(mix, u64::from(result.origin));
-        mix = mixed(mix, bits(result.x));
-        mix = mixed(mix, bits(result.y));
-    }
-    mix
+    results
+        .iter()
+        .flat_map(|placed| {
+            [
+                u64::from(placed.refusal),
+                u64::from(placed.origin),
+                bits(placed.x),
+                bits(placed.y),
+            ]
+        })
+        .fold(0, mixed)
 }
 
 // The status, and all results.

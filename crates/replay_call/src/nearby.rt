@@ -46,12 +46,15 @@ pub fn positions<const N: usize>(p: LonLat, by: LonLat) -> [LonLat; N]
     let q = further(p, by);
     let r = further(q, by);
     let mut positions = [p; N];
-    positions[1] = corner(q, p);
-    positions[2] = q;
-    positions[3] = corner(p, q);
-    positions[4] = r;
-    positions[5] = corner(r, q);
-    positions[6] = corner(q, r);
-    positions[7] = corner(r, p);
+    positions[..8].copy_from_slice(&[
+        p,
+        corner(q, p),
+        q,
+        corner(p, q),
+        r,
+        corner(r, q),
+        corner(q, r),
+        corner(r, p),
+    ]);
     positions
 }

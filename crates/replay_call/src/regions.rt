@@ -5,25 +5,22 @@ use crate::mixed::mixed;
 use answer::bits;
 use caption_box::CaptionBox;
 use coordinates::coords::Face;
-use coordinates::vec2::Vec2;
 use replay::outcome::{Outcome, answered};
-use replay_lent::regions::{MOST, Outlined};
+use replay_lent::regions::{BLANK, MOST, Outlined};
 
-// What a point holds before a call.
+// The points before a call.
 pub fn blank() -> [Face; MOST]
     ensures { length result ≡ 300 }
 {
-    [Face(Vec2 { x: 0.5, y: -0.5 }); MOST]
+    [BLANK; MOST]
 }
 
 // All points, also those that no call may write.
 fn mixed_points(points: &[Face]) -> u64 {
-    let mut mix: u64 = 0;
-    for point in points {
-        mix = mixed(mix, bits(point.0.x));
-        mix = mixed(mix, bits(point.0.y));
-    }
-    mix
+    points
+        .iter()
+        .flat_map(|point| [bits(point.0.x), bits(point.0.y)])
+        .fold(0, mixed)
 }
 
 fn mixed_box(bounds: CaptionBox) -> u64 {

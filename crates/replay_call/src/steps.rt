@@ -1,5 +1,5 @@
 // The block of a step of the caption panel, made of a call's numbers, and what it comes to, as an outcome.
-ghost use Rattle.std.specs.Prelude.{◌≡◌, ◌≤◌};
+ghost use Rattle.std.specs.Prelude.{◌≡◌};
 ghost use Rattle.replay_call.specs.Made.{block_of};
 
 use crate::mixed::mixed;
@@ -33,23 +33,16 @@ pub fn block(r: Registers) -> [u8; 32]
     bytes
 }
 
-// Eight bytes of a block as a number.
-fn eight(block: &[u8; 32], at: usize) -> u64
-    requires { at ≤ 24 }
-{
-    let mut bytes = [0u8; 8];
-    bytes.copy_from_slice(&block[at..at + 8]);
-    u64::from_be_bytes(bytes)
-}
-
 // All bytes of a block: both results by themselves, and the others mixed.
 pub fn of_block(answer: Result<(), Refusal>, block: &[u8; 32]) -> Outcome {
+    let numbers = block.as_chunks::<8>().0;
+    let number = |at: usize| u64::from_be_bytes(numbers[at]);
     Outcome {
         status: answer::status(answer),
         answers: [
-            Some(mixed(eight(block, 0), eight(block, 8))),
-            Some(eight(block, 16)),
-            Some(eight(block, 24)),
+            Some(mixed(number(0), number(1))),
+            Some(number(2)),
+            Some(number(3)),
         ],
     }
 }

@@ -18,10 +18,11 @@ const NOTES: usize = 2 * DEFINED_AT;
 // The number that the comparisons of the set are counted under. No record has it.
 const BUFFERS: u8 = 7;
 
-// The outcome of a record; none where a place that it names is not there.
+// The outcome of a record; none where a place that it names is not there. The numbers are those of the list in main. A table of functions
+// would be no plainer: the calls have one arm, and `called` tells them by their numbers, one of which is an argument of a `lent` record.
 fn outcome(set: &mut Set, record: &Record) -> Option<Outcome> {
     match record.head.number {
-        0..=BUFFERS => called(BuiltIn, set, DEFINED_AT, record),
+        0..=BUFFERS => called(BuiltIn, set, Some(DEFINED_AT), record),
         8 => set.note(record).map(done),
         9 => set.fill_all(record).map(done),
         10 => set.put(record).map(done),

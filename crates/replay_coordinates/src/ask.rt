@@ -1,4 +1,4 @@
-// The functions of crate coordinates, each at a record's arguments.
+// The functions of crates geographic, authalic, plane, transforms and vector, each at a record's arguments.
 use answer::Refusal;
 use coordinates::base::Radians;
 use coordinates::coords::{Cartesian, Face};
@@ -6,9 +6,8 @@ use coordinates::polar::Polar;
 use replay::outcome::{Outcome, one, three};
 use replay::record::Record;
 use replay_arguments::{
-    answers, barycentric, cartesian, face, polar, radians, spherical, triangle,
+    answers, barycentric, cartesian, face, inside, polar, radians, spherical, triangle,
 };
-use sine::is_outside;
 use transforms::{coordinate_transforms, gnomonic};
 
 // A face point in the coordinates of a triangle.
@@ -22,48 +21,39 @@ pub fn barycentric_to_face(record: &Record) -> Outcome {
     answers::face(plane::barycentric_to_face(barycentric(record), triangle(record, 3)))
 }
 
-// A polar point on the face; 19 where gamma is outside, which the function's callers rule out.
+// A polar point on the face.
 pub fn to_face(record: &Record) -> Result<Face, Refusal> {
     let point = polar(record);
-    if is_outside(point.gamma.0) {
-        return Err(Refusal::AngleOutside);
-    }
+    inside(point.gamma)?;
     Ok(plane::to_face(point))
 }
 
-// A spherical point in space; 19 where an angle is outside.
+// A spherical point in space.
 pub fn to_cartesian(record: &Record) -> Result<Cartesian, Refusal> {
     let point = spherical(record, 0);
-    if is_outside(point.theta.0) || is_outside(point.phi.0) {
-        return Err(Refusal::AngleOutside);
-    }
+    inside(point.theta)?;
+    inside(point.phi)?;
     Ok(coordinate_transforms::to_cartesian(point))
 }
 
-// A latitude on the authalic sphere; 19 where it is outside.
+// A latitude on the authalic sphere.
 pub fn authalic_forward(record: &Record) -> Result<Radians, Refusal> {
     let phi = radians(record);
-    if is_outside(phi.0) {
-        return Err(Refusal::AngleOutside);
-    }
+    inside(phi)?;
     Ok(authalic::forward(phi))
 }
 
-// And back; 19 where it is outside.
+// And back.
 pub fn authalic_inverse(record: &Record) -> Result<Radians, Refusal> {
     let phi = radians(record);
-    if is_outside(phi.0) {
-        return Err(Refusal::AngleOutside);
-    }
+    inside(phi)?;
     Ok(authalic::inverse(phi))
 }
 
-// A spherical point on the tangent plane; 19 where phi is outside.
+// A spherical point on the tangent plane.
 pub fn gnomonic_forward(record: &Record) -> Result<Polar, Refusal> {
     let point = spherical(record, 0);
-    if is_outside(point.phi.0) {
-        return Err(Refusal::AngleOutside);
-    }
+    inside(point.phi)?;
     Ok(gnomonic::forward(point))
 }
 

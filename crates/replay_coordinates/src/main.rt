@@ -1,4 +1,4 @@
-// Reads the oracle's list (oracle/README.md) from standard input, asks crate coordinates at each stored argument, and
+// Reads the oracle's list (oracle/README.md) from standard input, asks the crates of coordinates at each stored argument, and
 // compares the outcomes bit for bit. It writes a line for each function: how many outcomes were compared, and how many
 // differ. It shows the first three records of each function that differ, and says so where the list is malformed.
 #![tactic(auto)]
@@ -7,59 +7,67 @@ mod ask;
 
 use geographic::{deg_to_rad, normalize_longitude, rad_to_deg};
 use plane::to_polar;
-use replay::function::Function;
-use replay::outcome::{Outcome, one, told};
-use replay::record::Record;
+use replay::outcome::{one, told};
 use replay_arguments::{answers, cartesian, degrees, face, lon_lat, polar, radians, spherical};
+use replay_tally::table::{Entry, run};
 use std::io;
 use transforms::conversions::{from_lon_lat, to_lon_lat};
 use transforms::coordinate_transforms::to_spherical;
 use transforms::gnomonic;
-
-// The outcome of a record's function.
-fn outcome(record: &Record) -> Outcome {
-    match record.head.number {
-        1 => one(deg_to_rad(degrees(record)).0),
-        2 => one(rad_to_deg(radians(record)).0),
-        3 => answers::polar(to_polar(face(record, 0))),
-        4 => told(ask::to_face(record), answers::face),
-        5 => ask::face_to_barycentric(record),
-        6 => ask::barycentric_to_face(record),
-        7 => answers::spherical(to_spherical(cartesian(record, 0))),
-        8 => told(ask::to_cartesian(record), answers::cartesian),
-        9 => one(normalize_longitude(degrees(record)).0),
-        10 => told(ask::authalic_forward(record), |phi| one(phi.0)),
-        11 => told(ask::authalic_inverse(record), |phi| one(phi.0)),
-        12 => told(ask::gnomonic_forward(record), answers::polar),
-        13 => answers::spherical(gnomonic::inverse(polar(record))),
-        14 => ask::triple_product(record),
-        15 => one(vector::length(cartesian(record, 0))),
-        16 => ask::vec3_distance(record),
-        17 => told(from_lon_lat(lon_lat(record)), answers::spherical),
-        _ => told(to_lon_lat(spherical(record, 0)), answers::lon_lat),
-    }
-}
+use vector::length;
 
 fn main(rt: HostRuntime) -> io::Result<()> {
-    let functions = [
-        Function::new("deg_to_rad", 1),
-        Function::new("rad_to_deg", 1),
-        Function::new("to_polar", 2),
-        Function::new("to_face", 2),
-        Function::new("face_to_barycentric", 8),
-        Function::new("barycentric_to_face", 9),
-        Function::new("to_spherical", 3),
-        Function::new("to_cartesian", 2),
-        Function::new("normalize_longitude", 1),
-        Function::new("authalic::forward", 1),
-        Function::new("authalic::inverse", 1),
-        Function::new("gnomonic::forward", 2),
-        Function::new("gnomonic::inverse", 2),
-        Function::new("triple_product", 9),
-        Function::new("length", 3),
-        Function::new("vec3_distance", 6),
-        Function::new("from_lon_lat", 2),
-        Function::new("to_lon_lat", 2),
+    let table = [
+        Entry::new("deg_to_rad", 1, |record| one(deg_to_rad(degrees(record)).0)),
+        Entry::new("rad_to_deg", 1, |record| one(rad_to_deg(radians(record)).0)),
+        Entry::new("to_polar", 2, |record| {
+            answers::polar(to_polar(face(record, 0)))
+        }),
+        Entry::new(
+            "to_face",
+            2,
+            |record| told(ask::to_face(record), answers::face),
+        ),
+        Entry::new("face_to_barycentric", 8, ask::face_to_barycentric),
+        Entry::new("barycentric_to_face", 9, ask::barycentric_to_face),
+        Entry::new("to_spherical", 3, |record| {
+            answers::spherical(to_spherical(cartesian(record, 0)))
+        }),
+        Entry::new(
+            "to_cartesian",
+            2,
+            |record| told(ask::to_cartesian(record), answers::cartesian),
+        ),
+        Entry::new("normalize_longitude", 1, |record| {
+            one(normalize_longitude(degrees(record)).0)
+        }),
+        Entry::new(
+            "authalic::forward",
+            1,
+            |record| told(ask::authalic_forward(record), |phi| one(phi.0)),
+        ),
+        Entry::new(
+            "authalic::inverse",
+            1,
+            |record| told(ask::authalic_inverse(record), |phi| one(phi.0)),
+        ),
+        Entry::new(
+            "gnomonic::forward",
+            2,
+            |record| told(ask::gnomonic_forward(record), answers::polar),
+        ),
+        Entry::new("gnomonic::inverse", 2, |record| {
+            answers::spherical(gnomonic::inverse(polar(record)))
+        }),
+        Entry::new("triple_product", 9, ask::triple_product),
+        Entry::new("length", 3, |record| one(length(cartesian(record, 0)))),
+        Entry::new("vec3_distance", 6, ask::vec3_distance),
+        Entry::new("from_lon_lat", 2, |record| {
+            told(from_lon_lat(lon_lat(record)), answers::spherical)
+        }),
+        Entry::new("to_lon_lat", 2, |record| {
+            told(to_lon_lat(spherical(record, 0)), answers::lon_lat)
+        }),
     ];
-    replay_tally::run(&mut rt.stdin(), &mut rt.stdout(), &functions, outcome)
+    run(rt.alloc(), &mut rt.stdin(), &mut rt.stdout(), &table)
 }

@@ -8,6 +8,9 @@ use replay_numbers::unlike;
 use replay_perform::perform;
 use set::sizes::{FACE_STORE, FRAME, SPHERE_STORE};
 
+// What a set holds before open: a number that is no mark, and that no call writes.
+pub const FOREIGN: f64 = 7.5;
+
 // The numbers of a frame and of both stores.
 #[derive(Drop)]
 pub struct Set {
@@ -54,7 +57,7 @@ impl Set {
         self.sphere.fill(0.0);
     }
 
-    // Whether every number is that of a second set.
+    // Whether every number is that of a second set. By their bits: `==` tells no zero from the other, and no NaN equals itself.
     pub fn is(&self, due: &Set) -> bool {
         unlike(&self.frame, &due.frame, 0) == 0
             && unlike(&self.face, &due.face, 0) == 0

@@ -5,7 +5,7 @@ use replay::outcome::{Outcome, refused};
 use set::sizes::{FACE_COORDINATES, FACE_WIDTH, SPHERE_COORDINATES, SPHERE_WIDTH};
 use show::StoreKind;
 
-// The numbers of a slot, where the store has it.
+// The numbers of a slot, where the store has it. By the sizes, and not by `show`'s and `stores`' functions, which are what is compared.
 fn numbers(set: &Set, kind: StoreKind, slot: usize) -> Option<&[f64]> {
     let (store, width): (&[f64], usize) = match kind {
         StoreKind::Face => (&set.face, FACE_WIDTH),

@@ -4,19 +4,16 @@ use origin::utils::Quat;
 use quaternion::transform_quat;
 use replay::outcome::{Outcome, one, whole};
 use replay::record::Record;
-use replay_arguments::{answers, cartesian, polar, radians, spherical};
-use sine::is_outside;
+use replay_arguments::{answers, cartesian, inside, polar, radians, spherical};
 
-// From a point to an axis; 19 where an angle is outside, which the function's callers rule out.
+// From a point to an axis.
 pub fn haversine(record: &Record) -> Result<f64, Refusal> {
     let point = spherical(record, 0);
     let axis = spherical(record, 2);
-    if is_outside(point.theta.0) || is_outside(point.phi.0) {
-        return Err(Refusal::AngleOutside);
-    }
-    if is_outside(axis.theta.0) || is_outside(axis.phi.0) {
-        return Err(Refusal::AngleOutside);
-    }
+    inside(point.theta)?;
+    inside(point.phi)?;
+    inside(axis.theta)?;
+    inside(axis.phi)?;
     Ok(nearest::haversine(point, axis))
 }
 
@@ -33,7 +30,7 @@ pub fn turned(record: &Record) -> Outcome {
 
 // The number of the triangle that a point belongs to.
 pub fn get_face_triangle_index(record: &Record) -> Outcome {
-    whole(triangle_index::get_face_triangle_index(polar(record)) as u64)
+    whole(u64::from(triangle_index::get_face_triangle_index(polar(record))))
 }
 
 // A gamma as the angle from its quintant's bisector.

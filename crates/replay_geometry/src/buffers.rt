@@ -14,7 +14,7 @@ const FACE_ROOM: usize = FACE_STORE + 1;
 
 const SPHERE_ROOM: usize = SPHERE_STORE + 1;
 
-// What every buffer holds before open: a number that open never writes.
+// What every buffer holds before open: a number that open never writes. `replay_draw`'s would bring in all calls and draws.
 pub const FOREIGN: f64 = 7.5;
 
 // The three numbers of a row.

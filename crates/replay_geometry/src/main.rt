@@ -13,16 +13,14 @@ use nearest::origins::BuiltIn;
 use nearest_calls::nearest;
 use open_calls::open;
 use replay::function::Function;
-use replay::outcome::{Outcome, one, refused, told, whole};
+use replay::outcome::{Outcome, nowhere, one, told, whole};
 use replay::record::Record;
 use replay_arguments::spherical;
+use replay_tally::Tally;
 use set::sizes::{FACE_STORE, FRAME, SPHERE_STORE};
 use std::io;
 
-// The refusal of a record that asks for a place that there is not. No call has it, so that the record is shown.
-const NO_SUCH_PLACE: u8 = 255;
-
-// The buffers of an opened set, which the program alone owns: no twin of replay_draw's set, which is run on.
+// The buffers of an opened set. They are replay_draw's `Set` too, which would bring in all calls and draws for three arrays.
 #[derive(Drop)]
 struct Set {
     frame: [f64; FRAME],
@@ -30,7 +28,8 @@ struct Set {
     sphere: [f64; SPHERE_STORE],
 }
 
-// The outcome of a record's function, on an opened set. None where a record asks for a place that there is not.
+// The outcome of a record's function, on an opened set. None where a record asks for a place that there is not. The numbers are those of
+// the list in main, and no table as in `replay_tally::table`, whose functions can't be lent the set.
 fn outcome(set: &Set, record: &Record) -> Option<Outcome> {
     match record.head.number {
         1 => tables::number_of_origin(record),
@@ -75,7 +74,7 @@ fn main(rt: HostRuntime) -> io::Result<()> {
     };
     // Where it is not opened, the rows differ.
     let _given = open(BuiltIn, &mut set.frame, &mut set.face, &mut set.sphere);
-    replay_tally::run(&mut rt.stdin(), &mut rt.stdout(), &functions, |record| {
-        outcome(&set, record).unwrap_or(refused(NO_SUCH_PLACE))
+    Tally::new(&functions).run(&mut rt.stdin(), &mut rt.stdout(), |record| {
+        outcome(&set, record).unwrap_or(nowhere())
     })
 }

@@ -4,16 +4,13 @@ use crate::counts::count_outcome;
 use nearest::origins::BuiltIn;
 use replay::function::Function;
 use replay_call::Call;
-use replay_draw::buffers::Set;
-use replay_draw::draw::draw;
+use replay_draw::buffers::{FOREIGN, Set};
+use replay_draw::draw::Generator;
 use replay_draw::due::expected;
 use replay_tally::Tally;
 
 // Where it is counted whether every number of the set is as it is due after a call.
 const SET: usize = 4;
-
-// What the set holds before open: a number that is no mark, and that no call writes.
-const FOREIGN: f64 = 7.5;
 
 // The set that the calls are made on, the set as it must be, and what was counted.
 #[derive(Drop)]
@@ -50,16 +47,16 @@ impl<'a> History<'a> {
     }
 
     // A list of so many calls, open once in so many of them, or never for 0.
-    fn list(&mut self, seed: &mut u64, calls: u32, opens: u64) {
+    fn list(&mut self, generator: &mut Generator, calls: u32, opens: u64) {
         for _ in 0..calls {
-            self.turn(draw(seed, opens));
+            self.turn(generator.draw(opens));
         }
     }
 
     // A list with many opens, and then one with none, which fills every slot.
     pub(crate) fn run(&mut self) {
-        let mut seed: u64 = 0x0123_4567_89ab_cdef;
-        self.list(&mut seed, 4000, 50);
-        self.list(&mut seed, 16000, 0);
+        let mut generator = Generator(0x0123_4567_89ab_cdef);
+        self.list(&mut generator, 4000, 50);
+        self.list(&mut generator, 16000, 0);
     }
 }

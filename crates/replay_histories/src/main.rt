@@ -12,27 +12,10 @@ mod vertices;
 
 use crate::lists::History;
 use replay::function::Function;
-use replay::{record, report};
 use std::io;
-use std::io::{Read, Write};
 
-// Runs the lists, and then compares each record's vertex or b × c, in the same counts. So it reads the records by itself, and not by
-// `replay_tally::run`, which begins with nothing counted. Nothing says that the input ends, so no more than so many are read.
-fn run<R: Read, W: Write>(from: &mut R, to: &mut W, functions: &[Function]) -> io::Result<()> {
-    let mut history = History::new(functions);
-    history.run();
-    for _ in 0..u32::MAX {
-        let Some(record) = record::read(from, to, functions)? else {
-            return history.tally.report(to, u8::MAX);
-        };
-        let given = vertices::of_record(&history.set, &record);
-        history.tally.compare(to, &record, given)?;
-    }
-    report::too_long(to)?;
-    history.tally.report(to, u8::MAX)
-}
-
-// What is counted, in the order of its numbers. The first three have records, with so many arguments.
+// What is counted, in the order of its numbers. The first three have records, with so many arguments: each record's vertex or b × c is
+// compared after the lists, in the same counts.
 fn main(rt: HostRuntime) -> io::Result<()> {
     let functions = [
         Function::new("face_vertex", 2),
@@ -57,5 +40,11 @@ fn main(rt: HostRuntime) -> io::Result<()> {
         Function::new("show", 0),
         Function::new("step", 0),
     ];
-    run(&mut rt.stdin(), &mut rt.stdout(), &functions)
+    let mut history = History::new(&functions);
+    history.run();
+    history
+        .tally
+        .run(&mut rt.stdin(), &mut rt.stdout(), |record| {
+            vertices::of_record(&history.set, record)
+        })
 }

@@ -1,13 +1,10 @@
 // The vertices of a slot's triangle, as show hands them back, and b × c, as it stands in the sphere store, at a record's
 // whole numbers.
-use replay::outcome::{Outcome, refused, three, two};
+use replay::outcome::{Outcome, nowhere, three, two};
 use replay::record::Record;
 use replay_draw::buffers::Set;
 use set::sizes::{SPHERE_CROSS, SPHERE_WIDTH};
 use show::{StoreKind, show, slot_state};
-
-// The refusal of a record that asks for a slot that is empty or not there. No call has it, so that the record is shown.
-const NO_SUCH_VERTEX: u8 = 255;
 
 // A number of a record as a place.
 fn place(record: &Record, argument: usize) -> Option<usize> {
@@ -31,7 +28,8 @@ fn cross_product<'a>(set: &'a Set, record: &Record) -> Option<&'a [f64]> {
     set.sphere.get(start..start.checked_add(3)?)
 }
 
-// The numbers that a record asks for, as its outcome.
+// The numbers that a record asks for, as its outcome: none are there of an empty slot. A record's number is its function's place in
+// main's list, in which three alone have records: so there is a match, and no table of what each function comes to.
 pub(crate) fn of_record(set: &Set, record: &Record) -> Outcome {
     let numbers = match record.head.number {
         1 => vertex(set, StoreKind::Face, record, 2),
@@ -41,6 +39,6 @@ pub(crate) fn of_record(set: &Set, record: &Record) -> Outcome {
     match numbers {
         Some([x, y]) => two(*x, *y),
         Some([x, y, z]) => three(*x, *y, *z),
-        _ => refused(NO_SUCH_VERTEX),
+        _ => nowhere(),
     }
 }

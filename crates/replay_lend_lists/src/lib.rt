@@ -15,7 +15,8 @@ use place_list::PlaceResult;
 use replay_lent::lists::{Listed, MOST};
 use set::set::Set;
 
-// Lends the first n positions and the first m results. The other results stay.
+// Lends the first n positions and the first m results. The other results stay. Both are cut here: a slice cut by the caller would take
+// n out of `placed_first`, and put it into the caller's proof, which has the array and n as it is.
 pub fn lend<O: Origins>(
     origins: O,
     set: &mut Set<'_>,

@@ -15,7 +15,8 @@ use region::region;
 use replay_lent::regions::{MOST, Outlined};
 use set::set::Set;
 
-// Lends the first n positions and the first m points. The other points stay.
+// Lends the first n positions and the first m points. The other points stay. Both are cut here: a slice cut by the caller would take
+// n out of `region_first`, and put it into the caller's proof, which has the array and n as it is.
 pub fn lend<O: Origins>(
     origins: O,
     set: &mut Set<'_>,

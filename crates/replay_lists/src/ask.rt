@@ -26,7 +26,8 @@ fn placed<O: Origins>(
     Some(told(place_list(origins, &mut lent, positions, results), done))
 }
 
-// The call of a record. A list with a table has the number of that behind its other arguments.
+// The call of a record. A list with a table has the number of that behind its other arguments. Alike in
+// replay_region: a trait for the one call between, and a type over both sorts of room, is longer than both.
 pub fn called(set: &mut Set, lists: &mut Lists, record: &Record) -> Option<Outcome> {
     match record.head.number {
         OPEN => opened(set, record),

@@ -5,10 +5,8 @@ use coordinates::lonlat::LonLat;
 use place_list::PlaceResult;
 use replay::outcome::Outcome;
 use replay::record::Record;
+use replay_lent::lists::{BLANK, MOST};
 use std::alloc::{AllocError, Global};
-
-// How many positions and results there are.
-const MOST: usize = 400;
 
 // A call is lent the first of each.
 #[derive(Drop)]
@@ -16,14 +14,6 @@ pub struct Lists {
     pub positions: Vec<LonLat>,
     pub results: Vec<PlaceResult>,
 }
-
-// What a result holds before a call.
-const BLANK: PlaceResult = PlaceResult {
-    refusal: 165,
-    origin: 90,
-    x: 0.5,
-    y: -0.5,
-};
 
 impl Lists {
     // Room for the most positions and results of a list, on the heap.

@@ -20,7 +20,8 @@ const BUFFERS: u8 = 4;
 
 const RESULT: u8 = 5;
 
-// The outcome of a record; none where a place that it names is not there.
+// The outcome of a record; none where a place that it names is not there. The numbers are those of the list in main, and no table as in
+// `replay_tally::table`, whose functions can't be lent the set and the lists.
 fn outcome(set: &mut Set, lists: &mut Lists, record: &Record) -> Option<Outcome> {
     match record.head.number {
         0..=BUFFERS => ask::called(set, lists, record),

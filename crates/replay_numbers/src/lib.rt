@@ -13,7 +13,8 @@ pub fn lacks(buffer: &[f64], at: usize, count: usize) -> bool
     buffer.get(at..).is_none_or(|rest| rest.len() < count)
 }
 
-// How many numbers of a buffer are not those of another from a place on, bit for bit: none only where each is.
+// How many numbers of a buffer are not those of another from a place on, bit for bit: none only where each is. Counted by a loop: tried
+// `zip`, `filter` and `count`, but the check then leaves open that none differs at any place.
 pub fn unlike(buffer: &[f64], wanted: &[f64], at: usize) -> usize
     ensures { result ≡ 0 → AlikeFrom buffer.now wanted.now at }
 {

@@ -7,11 +7,11 @@
 ghost use Rattle.std.specs.Prelude.{◌<◌};
 
 use answer::Refusal;
+use big_endian::value;
 use nearest::origins::BuiltIn;
 use open_calls::open;
 use panel_step::step;
 use replay::function::Function;
-use replay::pattern::value;
 use replay::record::read_full;
 use replay_sets::noted::{Lent, Set};
 use replay_sets::tables;
@@ -30,7 +30,8 @@ const AFTER_AT: usize = BLOCK_AT + 34;
 
 const SIZE: usize = AFTER_AT + 34;
 
-// What a record asks, by its first byte: 0 is a step, 1 a step with a table, and every other that the set is opened with a table.
+// What a record asks, by its first byte: 0 is a step, 1 a step with a table, and every other that the set is opened with a table. A
+// match shows each byte beside what it asks.
 enum Asked {
     Step,
     StepWith,
@@ -134,7 +135,7 @@ fn agrees(set: &mut Set, record: [u8; SIZE]) -> bool {
         && record[BLOCK_AT..AFTER_AT] == record[AFTER_AT..]
 }
 
-// The line of what was asked and its stored status: carried out, and then refused.
+// The line of what was asked and its stored status: carried out, and then refused, in the order of main's list.
 fn line(asked: Asked, due: u8) -> usize {
     let carried_out = match asked {
         Asked::Step => 1,

@@ -31,7 +31,8 @@ fn outlined<O: Origins>(
     Some(told(given, |answer| whole(u64::from(answer.origin))))
 }
 
-// The call of a record. A region with a table has the number of that behind its other arguments.
+// The call of a record. A region with a table has the number of that behind its other arguments. Alike in
+// replay_lists: a trait for the one call between, and a type over both sorts of room, is longer than both.
 pub fn called(set: &mut Set, outline: &mut Outline, record: &Record) -> Option<Outcome> {
     match record.head.number {
         OPEN => opened(set, record),

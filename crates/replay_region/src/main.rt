@@ -20,7 +20,8 @@ const BUFFERS: u8 = 4;
 
 const BOX: u8 = 6;
 
-// The outcome of a record; none where a place that it names is not there.
+// The outcome of a record; none where a place that it names is not there. The numbers are those of the list in main, and no table as in
+// `replay_tally::table`, whose functions can't be lent the set and the outline.
 fn outcome(set: &mut Set, outline: &mut Outline, record: &Record) -> Option<Outcome> {
     match record.head.number {
         0..=BUFFERS => ask::called(set, outline, record),

@@ -4,14 +4,11 @@ use caption_box::CaptionBox;
 use coordinates::base::Degrees;
 use coordinates::coords::Face;
 use coordinates::lonlat::LonLat;
-use coordinates::vec2::Vec2;
 use replay::outcome::{Outcome, answered};
 use replay::record::Record;
 use replay_arguments::answers;
+use replay_lent::regions::{BLANK, MOST};
 use std::alloc::{AllocError, Global};
-
-// How many positions and points there are.
-const MOST: usize = 300;
 
 // A call is lent the first positions and the first points. The box is that of the last region that was answered.
 #[derive(Drop)]
@@ -20,9 +17,6 @@ pub struct Outline {
     pub points: Vec<Face>,
     pub bounds: CaptionBox,
 }
-
-// What a point holds before a call.
-const BLANK: Face = Face(Vec2 { x: 0.5, y: -0.5 });
 
 impl Outline {
     // Room for the most positions and points of a region, on the heap.

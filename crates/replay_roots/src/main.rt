@@ -3,22 +3,17 @@
 // many differ.
 #![tactic(auto)]
 
-use replay::function::Function;
-use replay::outcome::{Outcome, one, whole};
-use replay::record::Record;
+use replay::outcome::{one, whole};
+use replay_tally::table::{Entry, run};
 use square_root::root::{sqrt, sqrt_rounds};
 use std::io;
 
-// The outcome of a record's function.
-fn outcome(record: &Record) -> Outcome {
-    let x = record.argument(0);
-    match record.head.number {
-        1 => one(sqrt(x)),
-        _ => whole(u64::from(sqrt_rounds(x))),
-    }
-}
-
 fn main(rt: HostRuntime) -> io::Result<()> {
-    let functions = [Function::new("sqrt", 1), Function::new("sqrt_rounds", 1)];
-    replay_tally::run(&mut rt.stdin(), &mut rt.stdout(), &functions, outcome)
+    let table = [
+        Entry::new("sqrt", 1, |record| one(sqrt(record.argument(0)))),
+        Entry::new("sqrt_rounds", 1, |record| {
+            whole(u64::from(sqrt_rounds(record.argument(0))))
+        }),
+    ];
+    run(rt.alloc(), &mut rt.stdin(), &mut rt.stdout(), &table)
 }

@@ -80,7 +80,7 @@ impl Set {
         })
     }
 
-    // The same for every other call, which has the frame to be read.
+    // The same for every other call, which has the frame to be read: its fields by the names that calls know them by.
     pub fn lend_set(&mut self, lengths: [u64; 3]) -> Option<set::set::Set<'_>>
         ensures frame { IfSome result (λ set. set.frame.now ≡ take (slice_index lengths 0) self.old.frame) }
         ensures face { IfSome result (λ set. set.face_store.now ≡ take (slice_index lengths 1) self.old.face) }
@@ -150,7 +150,11 @@ impl Set {
     }
 
     // What open should leave: the frame that stands from a place on, and zeros in both stores. What lies behind stays.
-    pub fn opened(&mut self, frame_at: usize) -> Option<()> {
+    pub fn opened(&mut self, frame_at: usize) -> Option<()>
+        ensures frame { self.new.frame ≡ self.old.frame }
+        ensures face { self.new.face ≡ self.old.face }
+        ensures sphere { self.new.sphere ≡ self.old.sphere }
+    {
         copy(&mut self.notes, frame_at, 0, FRAME - 1)?;
         fill(&mut self.notes, FACE_AT, FACE_STORE - 1, 0.0)?;
         fill(&mut self.notes, SPHERE_AT, SPHERE_STORE - 1, 0.0)

@@ -12,6 +12,3 @@ pub const SPHERE_AT: usize = FACE_AT + FACE_STORE;
 
 // The notes: first what the set should hold, then the same places with what is copied there by its number.
 pub const DEFINED_AT: usize = SPHERE_AT + SPHERE_STORE;
-
-// The refusal of a record that asks for a place that there is not. No call has it, so that the record is shown.
-pub const NO_SUCH_PLACE: u8 = 255;

@@ -1,8 +1,7 @@
 // Lists of calls on a set, and of records that set it up.
 use crate::noted::Set;
-use crate::places::NO_SUCH_PLACE;
 use replay::function::Function;
-use replay::outcome::{Outcome, refused, whole};
+use replay::outcome::{Outcome, nowhere, whole};
 use replay::record::{Head, Record};
 use replay::{record, report};
 use replay_tally::Tally;
@@ -32,7 +31,8 @@ fn none_wrong(buffers: u8) -> Record {
 }
 
 // Replays a list: asks for the outcome at each record, none where a place that it names is not there, and compares it with the
-// stored one, and after a call the set with its notes. Nothing says that the input ends, so no more than so many are read.
+// stored one, and after a call the set with its notes. Nothing says that the input ends, so no more than so many are read. The loop is
+// its own, and not `Tally::run`'s with a step behind each record: that step counts too, and a tally that runs would have to be lent to it.
 pub fn run<R: Read, W: Write, F: FnMut(&mut Set, &Record) -> Option<Outcome>>(
     from: &mut R,
     to: &mut W,
@@ -45,9 +45,9 @@ pub fn run<R: Read, W: Write, F: FnMut(&mut Set, &Record) -> Option<Outcome>>(
     let mut tally = Tally::new(kinds.functions);
     for _ in 0..u32::MAX {
         let Some(record) = record::read(from, to, kinds.functions)? else {
-            return tally.report(to, kinds.last);
+            return tally.report(to, Some(kinds.last));
         };
-        let given = ask(set, &record).unwrap_or(refused(NO_SUCH_PLACE));
+        let given = ask(set, &record).unwrap_or(nowhere());
         tally.compare(to, &record, given)?;
         if record.head.number < kinds.buffers {
             let wrong = whole(set.wrong() as u64);
@@ -55,5 +55,5 @@ pub fn run<R: Read, W: Write, F: FnMut(&mut Set, &Record) -> Option<Outcome>>(
         }
     }
     report::too_long(to)?;
-    tally.report(to, kinds.last)
+    tally.report(to, Some(kinds.last))
 }

@@ -3,6 +3,7 @@
 // how many differ, names each that differs, and says so where the list is malformed.
 #![tactic(auto)]
 
+use answer::Refusal;
 use replay::record::read_full;
 use replay_tally::Count;
 use replay_tally::lines::Replayed;
@@ -24,13 +25,10 @@ fn counts_of(head: &[u8; HEAD]) -> [u32; 12] {
     counts
 }
 
-// Prints on the first bytes of the room, as many as the record says.
-fn print(head: &[u8; HEAD], room: &mut [u8; ROOM]) -> u8 {
+// Prints on the first bytes of the room, as many as the record says. None where the room has fewer.
+fn print(head: &[u8; HEAD], room: &mut [u8; ROOM]) -> Option<Result<(), Refusal>> {
     let lent = usize::from(u16::from_be_bytes([head[48], head[49]]));
-    if lent > ROOM {
-        return 255;
-    }
-    answer::status(sheet::print(counts_of(head), &mut room[..lent]))
+    Some(sheet::print(counts_of(head), room.get_mut(..lent)?))
 }
 
 // Prints the next record, if there is one, and compares.
@@ -48,12 +46,12 @@ fn replay_next<R: Read>(from: &mut R) -> io::Result<Replayed> {
     let given = print(&head, &mut room);
     Ok(Replayed::Compared {
         line: 1,
-        agrees: given == head[50] && room == wanted,
+        agrees: given.is_some_and(|given| answer::status(given) == head[50]) && room == wanted,
     })
 }
 
-// By itself, and not by `replay_tally::lines::run`, which begins its last line with a name, and counts the records that differ from 0:
-// here the first page is 1. Nothing says that the input ends, so no more than so many records are read.
+// By itself, and not by `replay_tally::lines::run`, which begins its last line with a name, and numbers the records from 0: here the
+// first page is 1. Nothing says that the input ends, so no more than so many records are read.
 fn run<R: Read, W: Write>(from: &mut R, to: &mut W) -> io::Result<()> {
     let mut count = Count::NONE;
     for _ in 0..u32::MAX {

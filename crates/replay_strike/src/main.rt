@@ -47,7 +47,8 @@ fn read_part<R: Read, W: Write>(
     Ok(Some(part))
 }
 
-// Feeds what has arrived by now and was not taken.
+// Feeds what has arrived by now and was not taken. That the place written to lies within the lines is asked, as an index's bound: a struct of
+// the lines and the place would have to be said to keep their length.
 fn step(at: Fed, set: &mut Set<'_>, arrived: &[u8], lines: &mut [u8]) -> Fed
     requires { (at.taken ≤ length arrived.now) × (at.written ≤ length lines.old) }
     ensures same { SameBuffers set.old set.new }
@@ -143,7 +144,8 @@ fn replay_next<R: Read, W: Write>(
     Ok(Some(differ))
 }
 
-// Nothing says that the list ends, so no more than so many sessions are read.
+// By itself, and not by `replay_tally::lines::run`, where a record agrees or not: of a session up to four runs differ. Nothing says that
+// the list ends, so no more than so many sessions are read.
 fn run<R: Read, W: Write>(alloc: Global, from: &mut R, to: &mut W) -> io::Result<()> {
     let mut compared: u32 = 0;
     let mut differ: u64 = 0;

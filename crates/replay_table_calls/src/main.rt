@@ -33,7 +33,8 @@ fn ask(set: &mut Set, record: &Record) -> Option<Outcome> {
     called(rows, set, frame_at(number), record)
 }
 
-// The outcome of a record; none where a place that it names is not there.
+// The outcome of a record; none where a place that it names is not there. The numbers are those of the list in main. A table of functions
+// would be no plainer: the calls have one arm, and `called` tells them by their numbers, one of which is an argument of a `lent` record.
 fn outcome(set: &mut Set, record: &Record) -> Option<Outcome> {
     match record.head.number {
         0..=BUFFERS => ask(set, record),

@@ -14,12 +14,12 @@ const TABLES_AT: usize = FRAMES_AT + OPENING * FRAME;
 
 pub const NOTES: usize = TABLES_AT + TABLES;
 
-// Where the frame of a table stands; the end of the notes where there is none.
-pub fn frame_at(table: u64) -> usize {
+// Where the frame of a table stands. None where no frame is noted of it.
+pub fn frame_at(table: u64) -> Option<usize> {
     if table >= OPENING as u64 {
-        return NOTES;
+        return None;
     }
-    FRAMES_AT + (table as usize) * FRAME
+    Some(FRAMES_AT + (table as usize) * FRAME)
 }
 
 // A table; zeros, which every call refuses, where there is none.

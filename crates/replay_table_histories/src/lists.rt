@@ -7,15 +7,12 @@ use crate::tables;
 use nearest::origins::BuiltIn;
 use replay::function::Function;
 use replay_call::Call;
-use replay_draw::buffers::Set;
-use replay_draw::draw::draw;
+use replay_draw::buffers::{FOREIGN, Set};
+use replay_draw::draw::Generator;
 use replay_tally::Tally;
 
 // Where it is counted whether every number of the set is as it is due after a call.
 const SET: usize = 1;
-
-// What the set holds before open: a number that is no mark, and that no call writes.
-const FOREIGN: f64 = 7.5;
 
 // The set that the calls are made on, what is due of them, and what was counted.
 #[derive(Drop)]
@@ -46,11 +43,11 @@ impl<'a> History<'a> {
     }
 
     // A list of so many calls, open once in so many of them. The table of a call is a new one for open, and else the one that is taken.
-    fn list(&mut self, seed: &mut u64, calls: u32, opens: u64) {
+    fn list(&mut self, generator: &mut Generator, calls: u32, opens: u64) {
         for _ in 0..calls {
-            let call = draw(seed, opens);
+            let call = generator.draw(opens);
             let table = match call {
-                Call::Open => tables::draw(seed),
+                Call::Open => tables::draw(generator),
                 _ => self.due.taken,
             };
             self.turn(&table, call);
@@ -59,8 +56,8 @@ impl<'a> History<'a> {
 
     // A list with many opens, and then one with few.
     pub(crate) fn run(&mut self) {
-        let mut seed: u64 = 0x1032_5476_98ba_dcfe;
-        self.list(&mut seed, 4000, 20);
-        self.list(&mut seed, 4000, 500);
+        let mut generator = Generator(0x1032_5476_98ba_dcfe);
+        self.list(&mut generator, 4000, 20);
+        self.list(&mut generator, 4000, 500);
     }
 }

@@ -33,5 +33,5 @@ fn main(rt: HostRuntime) -> io::Result<()> {
     ];
     let mut history = History::new(&functions);
     history.run();
-    history.tally.report(&mut rt.stdout(), u8::MAX)
+    history.tally.report(&mut rt.stdout(), None)
 }

@@ -1,13 +1,13 @@
 // The tables that opens bring, from the generator: the built-in one, turned ones, and some that open refuses.
 ghost use Rattle.std.specs.Prelude.{◌<◌};
 
+use big_endian::value;
 use coordinates::coords::Cartesian;
 use coordinates::vec3::Vec3;
 use origin::origin::built_in;
 use origin::utils::Quat;
 use quaternion::transform_quat;
-use replay::pattern::value;
-use replay_draw::draw::{around, next};
+use replay_draw::draw::{Generator, around};
 use square_root::root::sqrt;
 use transforms::coordinate_transforms::to_spherical;
 
@@ -50,12 +50,12 @@ fn turned(turn: Quat) -> [f64; 84] {
 }
 
 // Turned by any rotation.
-fn turned_anyhow(seed: &mut u64) -> [f64; 84] {
+fn turned_anyhow(generator: &mut Generator) -> [f64; 84] {
     turned(Quat {
-        x: around(next(seed)),
-        y: around(next(seed)),
-        z: around(next(seed)),
-        w: around(next(seed)),
+        x: around(generator.next()),
+        y: around(generator.next()),
+        z: around(generator.next()),
+        w: around(generator.next()),
     })
 }
 
@@ -76,10 +76,12 @@ fn exchanged(table: [f64; 84], first: usize, second: usize) -> [f64; 84]
 }
 
 // With another number in one place of a row.
-fn with(table: [f64; 84], at: usize, number: f64) -> [f64; 84] {
+fn with(table: [f64; 84], row: usize, column: usize, number: f64) -> [f64; 84] {
     let mut other = table;
-    if at < 84 {
-        other[at] = number;
+    if let Some(numbers) = other.as_chunks_mut::<7>().0.get_mut(row)
+        && let Some(place) = numbers.get_mut(column)
+    {
+        *place = number;
     }
     other
 }
@@ -87,21 +89,20 @@ fn with(table: [f64; 84], at: usize, number: f64) -> [f64; 84] {
 // Mostly a turned table, or one with rows exchanged. Else the built-in one; one with an axis elsewhere, of whose face no
 // triangle is found; or one that open refuses: with 7 for an angle that no face has, with 21 for a number beyond its range, or
 // with 22 for a quaternion off unit length. Any float at all in a quaternion gives 21 or 22.
-pub(crate) fn draw(seed: &mut u64) -> [f64; 84] {
-    let kind = next(seed) % 16;
-    let table = turned_anyhow(seed);
-    let first = row(next(seed));
-    let at = 7 * first;
+pub(crate) fn draw(generator: &mut Generator) -> [f64; 84] {
+    let kind = generator.next() % 16;
+    let table = turned_anyhow(generator);
+    let first = row(generator.next());
     // each number that is drawn stands for one sort of table
     match kind {
         0 => built_in(),
-        1 => with(built_in(), at + 1, 0.25),
-        2 => with(built_in(), at + 6, 1.0),
-        3 => with(table, at + 6, 1.0),
-        4 => with(table, at + 2, value(next(seed))),
-        5 => with(table, at, 8.5),
-        6 => with(table, at + 5, 0.25),
-        7 => exchanged(table, first, row(next(seed))),
+        1 => with(built_in(), first, 1, 0.25),
+        2 => with(built_in(), first, 6, 1.0),
+        3 => with(table, first, 6, 1.0),
+        4 => with(table, first, 2, value(generator.next())),
+        5 => with(table, first, 0, 8.5),
+        6 => with(table, first, 5, 0.25),
+        7 => exchanged(table, first, row(generator.next())),
         _ => table,
     }
 }

@@ -47,7 +47,8 @@ fn agrees(file: &[u8], status: u8, stored: &[u8; 672]) -> bool {
     }
 }
 
-// The line of a status, by its number as the list stores it: loaded, refused with 20, 21, 22.
+// The line of a status, by its number as the list stores it: loaded, refused with 20, 21, 22, in the order of main's list. A table of numbers
+// and names would have to be searched, and have no line for a status that is not in it: a match is plainer.
 fn line(status: u8) -> usize {
     match status {
         0 => 1,

@@ -7,6 +7,7 @@ ghost use Rattle.replay_tally.specs.Compared.{same, stored_in};
 ghost use Rattle.replay_tally.specs.Tally.{compared_by, counted, none_counted};
 
 pub mod lines;
+pub mod table;
 
 use replay::function::{Function, numbered};
 use replay::outcome::Outcome;
@@ -52,7 +53,8 @@ impl fmt::Display for Count {
     }
 }
 
-// A list's functions, and what was counted of each, by its number. A head's number is below 32.
+// A list's functions, and what was counted of each, by its number. A head's number is below 32. The functions
+// are lent: a count in each would need an array of as many.
 #[derive(Clone, Copy)]
 pub struct Tally<'a> {
     pub functions: &'a [Function],
@@ -83,6 +85,7 @@ impl<'a> Tally<'a> {
     }
 
     // Counts one more that was compared, and whether it differs. A number beyond the counts is not counted.
+    // By its place: tried `get_mut`, but the check then leaves open what the counts are.
     pub fn count(&mut self, number: usize, agrees: bool)
         ensures { self.new.counts ≡ counted agrees number self.old.counts }
     {
@@ -117,35 +120,35 @@ impl<'a> Tally<'a> {
         Ok(())
     }
 
-    // A line for each function, up to and with the last.
-    pub fn report<W: Write>(&self, to: &mut W, last: u8) -> io::Result<()> {
-        let counts = self.counts[1..].iter().take(usize::from(last));
+    // A line for each function, up to and with the last that is named.
+    pub fn report<W: Write>(&self, to: &mut W, last: Option<u8>) -> io::Result<()> {
+        let most = last.map_or(self.functions.len(), usize::from);
+        let counts = self.counts[1..].iter().take(most);
         for (function, count) in self.functions.iter().zip(counts) {
             let name = function.name;
             writeln!(to, "{name} {count}")?;
         }
         Ok(())
     }
-}
 
-// Replays a list: asks for the outcome at each record, and compares it with the stored one. Nothing says that the input ends,
-// so no more than so many records are read.
-pub fn run<R: Read, W: Write, F: FnMut(&Record) -> Outcome>(
-    from: &mut R,
-    to: &mut W,
-    functions: &[Function],
-    mut ask: F,
-) -> io::Result<()>
-    requires { F.IsAlwaysCallable ask }
-{
-    let mut tally = Tally::new(functions);
-    for _ in 0..u32::MAX {
-        let Some(record) = record::read(from, to, functions)? else {
-            return tally.report(to, u8::MAX);
-        };
-        let given = ask(&record);
-        tally.compare(to, &record, given)?;
+    // Replays a list: asks for the outcome at each record, compares it with the stored one, and reports. Nothing says that the
+    // input ends, so no more than so many records are read.
+    pub fn run<R: Read, W: Write, F: FnMut(&Record) -> Outcome>(
+        mut self,
+        from: &mut R,
+        to: &mut W,
+        mut ask: F,
+    ) -> io::Result<()>
+        requires { F.IsAlwaysCallable ask }
+    {
+        for _ in 0..u32::MAX {
+            let Some(record) = record::read(from, to, self.functions)? else {
+                return self.report(to, None);
+            };
+            let given = ask(&record);
+            self.compare(to, &record, given)?;
+        }
+        report::too_long(to)?;
+        self.report(to, None)
     }
-    report::too_long(to)?;
-    tally.report(to, u8::MAX)
 }

@@ -5,7 +5,8 @@ use replay::report;
 use std::io;
 use std::io::{Read, Write};
 
-// What became of the next record: there is none, the list ends inside it, or it was compared.
+// What became of the next record: there is none, the list ends inside it, or it was compared. No `Result` in a `Result`: `?` is for the
+// reader's error alone.
 #[derive(Clone, Copy)]
 pub enum Replayed {
     Ended,
@@ -26,10 +27,10 @@ pub fn run<R: Read, W: Write, F: FnMut(&mut R) -> io::Result<Replayed>>(
     let mut tally = Tally::new(lines);
     for number in 0..u32::MAX {
         match replay(from)? {
-            Replayed::Ended => return tally.report(to, u8::MAX),
+            Replayed::Ended => return tally.report(to, None),
             Replayed::CutOff => {
                 report::cut_off(to)?;
-                return tally.report(to, u8::MAX);
+                return tally.report(to, None);
             }
             Replayed::Compared { line, agrees } => {
                 tally.count(line, agrees);
@@ -40,5 +41,5 @@ pub fn run<R: Read, W: Write, F: FnMut(&mut R) -> io::Result<Replayed>>(
         }
     }
     report::too_long(to)?;
-    tally.report(to, u8::MAX)
+    tally.report(to, None)
 }

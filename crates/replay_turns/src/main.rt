@@ -43,7 +43,8 @@ fn agrees(record: &[u8; SIZE]) -> bool {
     given == record[2] && grants == after
 }
 
-// The line of a status, by its number as the list stores it: answered, refused with 24, 25.
+// The line of a status, by its number as the list stores it: answered, refused with 24, 25, in the order of main's list. A table of numbers
+// and names would have to be searched, and have no line for a status that is not in it: a match is plainer.
 fn line(status: u8) -> usize {
     match status {
         0 => 1,

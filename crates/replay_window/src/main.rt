@@ -7,6 +7,7 @@
 use replay::function::Function;
 use replay::outcome::{Outcome, answered, done, told, whole};
 use replay::record::Record;
+use replay_tally::Tally;
 use std::io;
 use window::Window;
 
@@ -45,7 +46,8 @@ fn strike(window: &Window, record: &Record) -> Outcome {
     ])
 }
 
-// The outcome of a record's function on the window.
+// The outcome of a record's function on the window: the numbers are those of the list in main, and no table as in
+// `replay_tally::table`, whose functions can't be lent the window.
 fn outcome(window: &mut Window, record: &Record) -> Outcome {
     match record.head.number {
         1 => renew(window),
@@ -63,7 +65,7 @@ fn main(rt: HostRuntime) -> io::Result<()> {
         Function::new("strike", 1),
     ];
     let mut window = Window::new();
-    replay_tally::run(&mut rt.stdin(), &mut rt.stdout(), &functions, |record| {
+    Tally::new(&functions).run(&mut rt.stdin(), &mut rt.stdout(), |record| {
         outcome(&mut window, record)
     })
 }

@@ -30,7 +30,9 @@ fn following(y: u64, t: u64, r: u64) -> u64
 
 // The digits of the root of m * 2^52 so far. With q for the digits found, zeros after them, and w for the weight of the last,
 // t is 4 * q + w, y is four times what q's square leaves of m * 2^52, in units of w, so that it stays below 2^57 and one word
-// is enough, and r is w / 2, the weight of the next digit. That digit is 1 where y is at least t.
+// is enough, and r is w / 2, the weight of the next digit. That digit is 1 where y is at least t. What they say of m is asked by
+// clauses, Found, and Ended once no digit is left. A ghost field would carry m along, for each function to compare with its own, and a
+// second type for digits that have ended would hold the same four words.
 #[derive(Clone, Copy)]
 pub struct Digits {
     pub t: u64,
@@ -53,7 +55,8 @@ pub fn no_digits(m: u64) -> Digits
 }
 
 // The digits from those that are found, one a round, until none is left or those found are the exact root. t itself is
-// carried, so that a round waits for a subtraction, a choice and a doubling, and nothing waits for the loop's tests.
+// carried, so that a round waits for a subtraction, a choice and a doubling, and nothing waits for the loop's tests. The rounds are an
+// answer, and what is left ends the loop: no index is counted.
 pub fn digits_from(m: u64, found: Digits) -> Digits
     requires { (m < 2 ^ 54) × Found (m * 2 ^ 52) found.t found.y found.r found.rounds }
     ensures { Ended (m * 2 ^ 52) result.t result.y result.r result.rounds }
@@ -72,9 +75,10 @@ pub fn digits_from(m: u64, found: Digits) -> Digits
     Digits { t, y, r, rounds }
 }
 
-// The digits of two roots, as far as they are found together: one of each a round, until none is left or those found of one are the exact root: the two wait for each other's words
-// nowhere, so that the processor works on both at once. The words are t and y for the first, u and z for the second. One test
-// sees whether nothing is left of either; it leaves the loop too where y and z are above 0 and have no digit in common.
+// The digits of two roots, as far as they are found together: one of each a round, until none is left or those found of one are the
+// exact root. The two wait for each other's words nowhere, so that the processor works on both at once. The words are t and y for the
+// first, u and z for the second. One test sees whether nothing is left of either; it leaves the loop too where y and z are above 0 and
+// have no digit in common. The rounds are an answer, and what is left ends the loop: no index is counted.
 pub fn digits_of_both(m: u64, n: u64) -> (Digits, Digits)
     requires { (2 ^ 52 ≤ m) × (m < 2 ^ 54) × (2 ^ 52 ≤ n) × (n < 2 ^ 54) }
     ensures { FoundBoth (m * 2 ^ 52) (n * 2 ^ 52) result }

@@ -23,7 +23,8 @@ pub record Fits (s : Set) : Type 0 where
   pub faces : length s.faces ≡ FACE_STORE
   pub spheres : length s.spheres ≡ SPHERE_STORE
 
-is_number : (a n : ℕ) → not (eqb a n) ≡ false → a ≡ n
+-- a number that a test found to be that of a buffer
+pub is_number : (a n : ℕ) → not (eqb a n) ≡ false → a ≡ n
 is_number a n e = eqb-true a n (not-false (eqb a n) e)
 
 pub set_passed : (s : Set) → check_set s ≡ passed → Fits s

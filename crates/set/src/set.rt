@@ -15,7 +15,8 @@ pub struct SetRef<'a> {
     pub sphere_store: &'a [f64],
 }
 
-// A set that is lent to a call: the frame to be read, and the stores to be written.
+// A set that is lent to a call: the frame to be read, and the stores to be written. It is lent as `&mut Set`, whose buffers could be exchanged
+// for others: so each contract says that they are the same. Handed over by value, a set would be made again for each call.
 #[derive(Drop)]
 pub struct Set<'a> {
     pub frame: &'a [f64],

@@ -9,7 +9,7 @@ use Rattle.decimal.specs.Decimal.{digit, decimal}
 use Rattle.decimal.proofs.Digits.{by_digits}
 use Rattle.sheet_lines.specs.Page.{SPACE, NEWLINE, spaces, line, right_aligned, numbered, lines_of, page_of}
 use Rattle.sheet.specs.Claims.{columns_at}
-use Rattle.sheet_columns.proofs.Number.{length_aligned}
+use Rattle.decimal.proofs.Columns.{length_aligned}
 use Rattle.sheet_lines.proofs.Lines.{sixty, lines_long, first_long}
 
 -- ---- texts with no newline

@@ -14,13 +14,14 @@ use Rattle.decimal.specs.Decimal.{decimal, number_in}
 use Rattle.window.specs.Window.{empty_window}
 use Rattle.window.specs.Kept.{Strike, kept, accepted, count}
 use Rattle.window.specs.EveryList.{sum, after}
+use Rattle.window.proofs.Recent.{count_most}
 use Rattle.window.proofs.Theorem.{every_list}
 use Rattle.sheet_lines.specs.Page.{TITLE, ALL, line, right_aligned, numbered, lines_of, page_of}
 use Rattle.sheet.specs.Sheet.{PAGE, sheet_given, page_after, SheetOf}
 use Rattle.std.specs.Prelude.{Result}
 use Rattle.answer.specs.declared.Refusal.{Refusal}
 use Rattle.sheet.specs.Claims.{columns_at, LaidOut, ReadsBack, EveryPage, SamePage, SameCounts, EverySheet}
-use Rattle.sheet_columns.proofs.Number.{length_aligned, reads_aligned}
+use Rattle.decimal.proofs.Columns.{length_aligned, reads_aligned}
 use Rattle.sheet_lines.proofs.Lines.{each_line, row_at, first_long, all_lines}
 use Rattle.sheet.proofs.Columns.{Columns, line_columns, numbered_columns, number_prints, newline_of, column_of, number_of, left_of, byte_in, columns_in}
 
@@ -89,16 +90,6 @@ same_counts c d low e k h =
     sym (read_count c k h (low k h).0) ∙ ap (λ (page : List ℕ). number_in (columns_at page (2 + k) 70 10)) e ∙ read_count d k h (low k h).1
 
 -- ---- after every list of additions
--- no origin has more strikes than there are
-count_most : (k : ℕ) (ss : List Strike) → count k ss ≤ length ss
-unfolding count
-count_most k [] = omega arith
-count_most k (s ∷ ss) = by (eqb s.origin k) (count_most k ss)
-  where
-    by : (b : Bool) → count k ss ≤ length ss → cond b (suc (count k ss)) (count k ss) ≤ suc (length ss)
-    by true h = omega arith
-    by false h = omega arith
-
 pub every_sheet : EverySheet
 every_sheet ss =
     let w = after empty_window ss in

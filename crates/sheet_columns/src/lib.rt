@@ -1,33 +1,10 @@
-// Paper 13: what a line of the as-run sheet is written of: a number in its columns, a text, a line of spaces.
+// Paper 13: what a line of the as-run sheet is written of beside its numbers: a text, a line of spaces. A line is a slice of 81 bytes,
+// which a `requires` asks for, and not an array: with `first_chunk_mut` and `as_mut_array` of a part of the page, both tried, it stayed open
+// that the page holds then what was written to the array.
 #![tactic(auto)]
 
-ghost use Rattle.std.specs.Prelude.{◌≡◌, cond, ◌++◌, ◌%◌, ◌<◌, ◌≤◌, eqb, length, drop};
-ghost use Rattle.decimal.specs.Decimal.{digit, decimal};
-ghost use Rattle.sheet_columns.specs.Line.{SPACE, blank, right_aligned};
-
-// The last digit of what is left of a number, and a space where nothing is left.
-fn column(rest: u64) -> u8
-    ensures { result ≡ cond (eqb rest 0) SPACE (digit (rest % 10)) }
-{
-    if rest == 0 {
-        return b' ';
-    }
-    b'0' + (rest % 10) as u8
-}
-
-// A number, right-aligned in the columns that are lent.
-pub fn write_number(columns: &mut [u8], n: u64)
-    requires { 0 < length columns.old }
-    ensures { columns.new ≡ right_aligned (length columns.old) (decimal n) }
-{
-    let last = columns.len() - 1;
-    columns[last] = b'0' + (n % 10) as u8;
-    let mut rest = n / 10;
-    for at in (0..last).rev() {
-        columns[at] = column(rest);
-        rest /= 10;
-    }
-}
+ghost use Rattle.std.specs.Prelude.{◌≡◌, ◌++◌, ◌≤◌, length, drop};
+ghost use Rattle.sheet_columns.specs.Line.{blank};
 
 // A text from the first column on.
 pub fn write_text(line: &mut [u8], text: &[u8])

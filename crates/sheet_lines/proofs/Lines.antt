@@ -13,7 +13,7 @@ use lib.Seq.{length-take-le, take_at, drop_at, take-suc, take_all, get_or-drop, 
 use Rattle.decimal.specs.Decimal.{decimal}
 use Rattle.window.specs.EveryList.{sum}
 use Rattle.sheet_lines.specs.Page.{NEWLINE, SPACE, TITLE, ALL, spaces, line, right_aligned, numbered, row, blank, lines_of, page_of}
-use Rattle.sheet_columns.proofs.Number.{length_aligned}
+use Rattle.decimal.proofs.Columns.{length_aligned}
 
 -- ---- a text written into a blank line from column 1 on, and ten bytes in columns 71 to 80
 pub filled : (left right : List ℕ) → length left ≤ 70 → length right ≡ 10 → put_mid 70 10 (left ++ drop (length left) blank) right ≡ line left right

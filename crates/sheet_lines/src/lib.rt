@@ -1,5 +1,5 @@
-// Paper 13: a line of the as-run sheet, by its place on the page. A line is lent as a slice and not as an array: where a part
-// of the page is lent as an array, a proof knows no byte of it afterwards.
+// Paper 13: a line of the as-run sheet, by its place on the page. A line is lent as a slice and not as an array: `first_chunk_mut`
+// and `as_mut_array` of a part of the page were tried, and it stayed open that the page holds then what was written to the array.
 #![tactic(auto)]
 
 ghost use Rattle.std.specs.Prelude.{◌≡◌, [], ◌<◌, length, get_or, take};
@@ -7,7 +7,8 @@ ghost use Rattle.decimal.specs.Decimal.{decimal};
 ghost use Rattle.window.specs.EveryList.{sum};
 ghost use Rattle.sheet_lines.specs.Page.{TITLE, ALL, line as Page·line, right_aligned, numbered, lines_of};
 
-use sheet_columns::{write_blank, write_number, write_text};
+use decimal::write_number;
+use sheet_columns::{write_blank, write_text};
 
 // The sum of the twelve counts. A u64 holds it.
 fn total(counts: &[u32; 12]) -> u64

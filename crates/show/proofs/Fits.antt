@@ -10,7 +10,7 @@ use Prim.Native.Nat.{ℕ, ◌+◌, ◌*◌, ◌<◌, ◌≤◌}
 use lib.Dec.{eqb, leb}
 use lib.ListN.{length}
 use lib.Ieee.{Float}
-use borrow.Author.Tests.{eqb-true, not-false, leb-false}
+use borrow.Author.Tests.{leb-false}
 use Rattle.std.specs.Prelude.{Result, Ok, Err}
 use Rattle.std.specs.Result.{result_unwrap_or}
 use Rattle.answer.specs.Given.{Given, answered}
@@ -18,12 +18,10 @@ use Rattle.answer.specs.Answer.{given}
 use Rattle.answer.specs.declared.Refusal.{Refusal}
 use Rattle.answer.proofs.Given.{refuse_answered}
 use Rattle.set.specs.Sizes.{FACE_STORE, SPHERE_STORE}
+use Rattle.set.proofs.Lengths.{is_number}
 use Rattle.show.specs.Show.{named, slots_in, width_in, coordinates_in, slot_given, where_filled, place_in, place_shown}
 use Rattle.show.specs.declared.StoreKind.{StoreKind}
 use Rattle.show.specs.declared.StoreKind.TheVariants as kind
-
-is_number : (a n : ℕ) → not (eqb a n) ≡ false → a ≡ n
-is_number a n e = eqb-true a n (not-false (eqb a n) e)
 
 pub record SlotFits (faces spheres : List Float) (kind : StoreKind) (k : ℕ) : Type 0 where
   pub faces_fit : length faces ≡ FACE_STORE

@@ -1,8 +1,9 @@
 // Show and its companion: what a slot of a set's stores holds. Both only read.
 #![tactic(auto)]
 
-ghost use Rattle.std.specs.Prelude.{◌≡◌, ◌+◌, ◌<◌, ◌≤◌, length};
+ghost use Rattle.std.specs.Prelude.{◌≡◌, ◌+◌, ◌*◌, ◌<◌, ◌≤◌, leb, length};
 ghost use Rattle.answer.specs.Answer.{given};
+ghost use Rattle.answer.specs.Given.{answered, refuse_if};
 ghost use Rattle.stores.specs.Slots.{filled};
 ghost use Rattle.show.specs.Show.{named, slots_in, width_in, coordinates_in, slot_given, PartOf, Shows};
 
@@ -19,6 +20,8 @@ pub enum StoreKind {
     Sphere,
 }
 
+// Four of the methods match on the kind: each is called by itself, with a clause of its own. A table of the kinds' numbers would be
+// one match more, since they would stay.
 impl StoreKind {
     // How many slots the store has.
     pub fn slots(self) -> usize
@@ -60,9 +63,21 @@ impl StoreKind {
             StoreKind::Sphere => sphere_store,
         }
     }
+
+    // The state of a slot of the store, which is lent here: 10, and otherwise whether the slot is filled.
+    fn state_in(self, store: &[f64], slot: usize) -> Result<bool, Refusal>
+        requires { slot < slots_in self → slot * width_in self < length store.now }
+        ensures { given result ≡ refuse_if (leb (slots_in self) slot) 10
+            (answered (filled store.now (slot * width_in self))) }
+    {
+        if slot >= self.slots() {
+            return Err(Refusal::UnknownSlot);
+        }
+        Ok(state_at(store, slot * self.width()))
+    }
 }
 
-// Whether the slot that starts at a place is filled, by its mark.
+// Whether the slot that starts at a place is filled, by its mark. `stores::slots::is_filled` tests the bound too, which is known here.
 fn state_at(store: &[f64], at: usize) -> bool
     requires { at < length store.now }
     ensures { result ≡ filled store.now at }
@@ -71,7 +86,7 @@ fn state_at(store: &[f64], at: usize) -> bool
 }
 
 // The companion: 2, 3, 10, and otherwise whether the slot is filled. Stores, kind and slot are four arguments here and in show, as
-// document 01 has them.
+// document 01 has them. 2 and 3 are tried here and not by `SetRef::check`, which tries the frame first, and no frame is lent here.
 #[tactic(auto, unfolding(crate::specs::Show::slot_given))]
 pub fn slot_state(
     face_store: &[f64],
@@ -87,11 +102,11 @@ pub fn slot_state(
     if sphere_store.len() != SPHERE_STORE {
         return Err(Refusal::SphereStoreLength);
     }
-    if slot >= kind.slots() {
-        return Err(Refusal::UnknownSlot);
+    // A match, in whose arms the kind's numbers are constants: on kind.store(..) this call took 1.5 ns more, and show 2.
+    match kind {
+        StoreKind::Face => kind.state_in(face_store, slot),
+        StoreKind::Sphere => kind.state_in(sphere_store, slot),
     }
-    let store = kind.store(face_store, sphere_store);
-    Ok(state_at(store, slot * kind.width()))
 }
 
 // The coordinates of the slot that starts at a place: so many, behind its mark.

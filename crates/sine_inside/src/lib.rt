@@ -3,7 +3,7 @@
 // no type's: nearly every argument is a sum or a quotient made for the call, which would have to build that type and owe the same proof.
 #![tactic(auto)]
 
-ghost use Rattle.std.specs.Prelude.{◌≡◌, true, false};
+ghost use Rattle.std.specs.Prelude.{◌≡◌, true, false, IfNone, IfSome};
 ghost use Rattle.std.specs.Float.{binary64};
 ghost use Rattle.std.specs.Float.Ieee.{mul, rem, lt};
 ghost use Rattle.answer.specs.Number.{is_finite};
@@ -15,12 +15,8 @@ ghost use Rattle.elementary.specs.Sine.{outside, modulo4, whole_float, sin_cos_r
 
 use elementary::sine::SinCos;
 use sine_series::{cos_at, sin_at, sin_cos_at};
+use std::f64::consts::{FRAC_2_PI, FRAC_PI_2, TAU};
 
-const TAU: f64 = 6.283185307179586;
-
-const FRAC_2_PI: f64 = 0.6366197723675814;
-
-const FRAC_PI_2: f64 = 1.5707963267948966;
 // Nearly what FRAC_PI_2 leaves out of π / 2.
 const PI_2_REST: f64 = 6.123233995736766e-17;
 
@@ -70,8 +66,7 @@ struct Angle {
     quarter: u64,
 }
 
-// Of an angle within a turn. The turns are taken off by each caller and not in here, since this is
-// to be small enough for the compiler to put it into the callers: a call costs 2 ns.
+// Of an angle within a turn.
 #[tactic(auto, using(elementary::proofs::Quarters::reduced_pair), unfolding(elementary::specs::Sine::reduced))]
 fn to_quarter(y: f64) -> Angle
     requires { lt (abs y) the_tau ≡ true }
@@ -82,16 +77,28 @@ fn to_quarter(y: f64) -> Angle
     Angle { r, quarter }
 }
 
-// The sine.
+// What is left of x after quarter turns, where x is finite. Put into its callers, since a call costs 2 ns.
+#[inline(always)]
+#[tactic(auto, using(elementary::proofs::Quarters::by_turns))]
+fn reduced(x: f64) -> Option<Angle>
+    ensures none { IfNone result (is_finite x ≡ false) }
+    ensures some { IfSome result (λ a. sin_cos_reduced ieee a.quarter a.r ≡ sin_cos ieee x) }
+{
+    if !answer::is_finite(x) {
+        return None;
+    }
+    Some(to_quarter(within_turn(x)))
+}
+
+// The sine. A match on the same reduction in each of the three, which one function would take a closure and its clause for.
 pub fn sin_inside(x: f64) -> f64
     requires { outside x ≡ false }
     ensures { result ≡ sin ieee x }
 {
-    if !answer::is_finite(x) {
-        return f64::NAN;
+    match reduced(x) {
+        Some(t) => sin_at(t.quarter, t.r),
+        None => f64::NAN,
     }
-    let t = to_quarter(within_turn(x));
-    sin_at(t.quarter, t.r)
 }
 
 // The cosine.
@@ -99,11 +106,10 @@ pub fn cos_inside(x: f64) -> f64
     requires { outside x ≡ false }
     ensures { result ≡ cos ieee x }
 {
-    if !answer::is_finite(x) {
-        return f64::NAN;
+    match reduced(x) {
+        Some(t) => cos_at(t.quarter, t.r),
+        None => f64::NAN,
     }
-    let t = to_quarter(within_turn(x));
-    cos_at(t.quarter, t.r)
 }
 
 // Sine and cosine from one reduction.
@@ -111,12 +117,13 @@ pub fn sin_cos_inside(x: f64) -> SinCos
     requires { outside x ≡ false }
     ensures { result ≡ sin_cos ieee x }
 {
-    if !answer::is_finite(x) {
-        let nan = f64::NAN;
-        return SinCos { sin: nan, cos: nan };
+    match reduced(x) {
+        Some(t) => sin_cos_at(t.quarter, t.r),
+        None => SinCos {
+            sin: f64::NAN,
+            cos: f64::NAN,
+        },
     }
-    let t = to_quarter(within_turn(x));
-    sin_cos_at(t.quarter, t.r)
 }
 
 // Sine / cosine.

@@ -68,7 +68,8 @@ pub fn sin_at(k: u64, r: f64) -> f64
     }
 }
 
-// The cosine after k quarter turns and r.
+// The cosine after k quarter turns and r. A match of its own: sin_at(k + 1, r) is the same only for k below 3, and
+// sin_at((k + 1) % 4, r) is not for 4, 5, 6 and others, which nothing rules out.
 #[tactic(auto, using(elementary::proofs::Quarters::turned))]
 pub fn cos_at(k: u64, r: f64) -> f64
     ensures { result ≡ (sin_cos_reduced ieee k r).cos }

@@ -33,44 +33,35 @@ fn sphere_run(t: SphericalTriangle, bxc: Cartesian) -> [f64; SPHERE_NUMBERS]
     ]
 }
 
-// The numbers of a slot into the run that is lent.
-fn write_run(run: &mut [f64], numbers: &[f64])
-    requires { length run.old ≡ length numbers.now }
-    ensures { run.new ≡ numbers.now }
-{
-    run.copy_from_slice(numbers);
-}
-
-// A slot whole: its mark, and its run lent on to the writer.
+// A slot whole: its mark, and its numbers behind it.
 fn write_slot(store: &mut [f64], at: usize, numbers: &[f64])
     requires { at + 1 + length numbers.now ≤ length store.old }
     ensures { store.new ≡ put store.old at (1·0 ∷ numbers.now) }
 {
     store[at] = 1.0;
-    write_run(&mut store[at + 1..at + 1 + numbers.len()], numbers);
+    store[at + 1..at + 1 + numbers.len()].copy_from_slice(numbers);
 }
 
-// An empty slot gets the triangle defined for it, and a filled one stays. Whether it is filled is asked
-// here and not by the writer: the triangle is worked out for an empty slot alone.
+// An empty slot gets the triangle defined for it, and a filled one stays. Whether it is filled is asked here and not by the writer: the
+// triangle is worked out for an empty slot alone. One writer of both stores, over a closure that gives the numbers, was tried: the check does
+// not cover a bound `FnOnce` that names how many they are. Why slot and store are of no type of their own, `stores::slots` says.
 pub fn write_face_slot(store: &mut [f64], slot: usize)
     requires { (slot < FACE_SLOTS) × (length store.old ≡ FACE_STORE) }
     ensures { store.new ≡ face_written ieee store.old slot }
 {
     let at = slot * FACE_WIDTH;
-    if is_filled(store, at) {
-        return;
+    if !is_filled(store, at) {
+        write_slot(store, at, &face_run(face_triangle(slot)));
     }
-    write_slot(store, at, &face_run(face_triangle(slot)));
 }
 
-// An empty slot gets the triangle t with b × c, and a filled one stays.
+// An empty slot gets the triangle t with b × c, and a filled one stays. The triangle is the Rust's type, which has no b × c.
 pub fn write_sphere_slot(store: &mut [f64], slot: usize, t: SphericalTriangle, bxc: Cartesian)
     requires { (slot < SPHERE_SLOTS) × (length store.old ≡ SPHERE_STORE) }
     ensures { store.new ≡ slot_written the_sphere_width store.old slot (sphere_run t bxc) }
 {
     let at = slot * SPHERE_WIDTH;
-    if is_filled(store, at) {
-        return;
+    if !is_filled(store, at) {
+        write_slot(store, at, &sphere_run(t, bxc));
     }
-    write_slot(store, at, &sphere_run(t, bxc));
 }

@@ -32,7 +32,8 @@ fn build_sphere(
     Ok(SphericalTriangle { a, b, c })
 }
 
-// The sphere triangle of a slot, built on the face triangle of the slot source where it is empty.
+// The sphere triangle of a slot, built on the face triangle of the slot source where it is empty. Why slot and store are of no type of
+// their own, `stores::slots` says.
 pub fn take_sphere(
     set: SetRef<'_>,
     origin: SoundOrigin,

@@ -3,10 +3,12 @@
 
 ghost use Rattle.std.specs.Prelude.{◌≡◌, true};
 ghost use Rattle.std.specs.Float.{binary64};
-ghost use Rattle.std.specs.Float.Ieee.{of_bits};
+ghost use Rattle.std.specs.Float.Ieee.{add, of_bits};
+ghost use Rattle.arithmetic.specs.Numbers.{1·0};
 ghost use Rattle.arithmetic.specs.Arith.{ieee};
 ghost use Rattle.arithmetic.specs.Sqrt.{sqrt};
 ghost use Rattle.elementary.specs.Arctangent.{atan2};
+ghost use Rattle.coordinates.specs.Vector.{dot};
 ghost use Rattle.spherical_polygon.specs.SphericalPolygon.{spherical_triangle_area};
 
 use arctangent::{atan2, atan2_and_sqrt};
@@ -14,11 +16,11 @@ use coordinates::base::Radians;
 use coordinates::coords::Cartesian;
 use vector::{dot, triple_product};
 
-// Whether b is the bit pattern of x; a NaN has none.
+// Whether b is the bit pattern of x; every NaN has one and the same.
 fn has_bits(x: f64, b: u64) -> bool
     ensures { result ≡ true → x ≡ of_bits binary64 b }
 {
-    !x.is_nan() && f64::to_bits(x) == b
+    answer::bits(x) == b
 }
 
 // atan2. Every call on an opened set asks for the area of one triangle, that of the frame's rows 0, 32
@@ -32,16 +34,22 @@ fn half_area(triple: f64, norm: f64) -> f64
     atan2(triple, norm)
 }
 
-// The area, with the sign of the corners' order.
+// What the triple product is measured by: 1 and the three products of two corners.
+fn norm(v1: Cartesian, v2: Cartesian, v3: Cartesian) -> f64
+    ensures { result ≡ add binary64 (add binary64 (add binary64 1·0 (dot ieee v1 v2)) (dot ieee v2 v3)) (dot ieee v3 v1) }
+{
+    1.0 + dot(v1, v2) + dot(v2, v3) + dot(v3, v1)
+}
+
+// The area, with the sign of the corners' order: of three corners, as the Rust has it.
 #[tactic(auto, unfolding(crate::specs::SphericalPolygon::spherical_triangle_area))]
 pub fn spherical_triangle_area(v1: Cartesian, v2: Cartesian, v3: Cartesian) -> Radians
     ensures { result ≡ spherical_triangle_area ieee v1 v2 v3 }
 {
-    let norm = 1.0 + dot(v1, v2) + dot(v2, v3) + dot(v3, v1);
-    Radians(2.0 * half_area(triple_product(v1, v2, v3), norm))
+    Radians(2.0 * half_area(triple_product(v1, v2, v3), norm(v1, v2, v3)))
 }
 
-// An area, and the square root that is found beside it, by name: no angle and distance, though as many numbers.
+// An area, and the square root that is found beside it, by name. No `AngleAndRoot`: that angle is half the area, and a bare number.
 #[derive(Clone, Copy)]
 pub struct AreaAndRoot {
     pub area: Radians,
@@ -59,7 +67,7 @@ pub fn spherical_triangle_area_and_sqrt(
     ensures { (result.area ≡ spherical_triangle_area ieee v1 v2 v3) × (result.root ≡ sqrt x) }
 {
     let triple = triple_product(v1, v2, v3);
-    let found = atan2_and_sqrt(triple, 1.0 + dot(v1, v2) + dot(v2, v3) + dot(v3, v1), x);
+    let found = atan2_and_sqrt(triple, norm(v1, v2, v3), x);
     AreaAndRoot {
         area: Radians(2.0 * found.angle),
         root: found.root,

@@ -11,19 +11,19 @@ ghost use Rattle.square_root.specs.Root.{Pattern, Radicand};
 
 use root_digits::{Digits, digits_from, digits_of_both, no_digits, rounded};
 
-// x's pattern where x is finite and above zero, else 0.
-fn pattern(x: f64) -> u64
+// x's pattern where x is finite and above zero.
+fn pattern(x: f64) -> Option<u64>
     ensures { Pattern x result }
 {
     if x.is_nan() {
-        return 0;
+        return None;
     }
     let b = f64::to_bits(x);
-    // infinity's, or with the sign bit
-    if b >= 0x7ff0_0000_0000_0000 {
-        return 0;
+    // +0's; infinity's, or with the sign bit
+    if b == 0 || b >= 0x7ff0_0000_0000_0000 {
+        return None;
     }
-    b
+    Some(b)
 }
 
 // The value m * 2^h of the smallest ones, 2^-1074, as a * 2^g in units of 2^-1126, where a has the full width of 53 digits. A type
@@ -43,7 +43,7 @@ fn widened(m: u64, h: u64) -> Wide
     if m >= 0x10_0000_0000_0000 {
         return Wide { a: m, g: h + 52 };
     }
-    let z = (u64::leading_zeros(m) as u64) - 11;
+    let z = u64::from(m.leading_zeros()) - 11;
     let a = m << z;
     let g = h + 52 - z;
     Wide { a, g }
@@ -58,7 +58,8 @@ struct Number {
 
 fn full_width(b: u64) -> Number
     requires { (0 < b) × (b < 2047 * 2 ^ 52) }
-    ensures { Radicand (of_bits binary64 b) result.m result.e }
+    ensures is { Radicand (of_bits binary64 b) result.m result.e }
+    ensures width { (2 ^ 52 ≤ result.m) × (result.m < 2 ^ 54) }
 {
     let p = float_parts::parts::split(b);
     let n = widened(p.m, p.h);
@@ -95,11 +96,10 @@ struct RootAndRounds {
 fn counted(x: f64) -> RootAndRounds
     ensures { (result.root ≡ sqrt x) × (result.rounds ≡ sqrt_rounds x) }
 {
-    let b = pattern(x);
-    if b == 0 {
+    let Some(b) = pattern(x) else {
         let root = root_elsewhere(x);
         return RootAndRounds { root, rounds: 0 };
-    }
+    };
     let n = full_width(b);
     let d = digits_from(n.m, no_digits(n.m));
     RootAndRounds {
@@ -131,17 +131,17 @@ pub fn sqrt_rounds(x: f64) -> u32
 pub fn sqrt_both(x: f64, y: f64) -> (f64, f64)
     ensures { (result.0 ≡ sqrt x) × (result.1 ≡ sqrt y) }
 {
-    let b = pattern(x);
-    let c = pattern(y);
-    if b == 0 || c == 0 {
-        return (sqrt(x), sqrt(y));
+    if let Some(b) = pattern(x)
+        && let Some(c) = pattern(y)
+    {
+        let n = full_width(b);
+        let k = full_width(c);
+        let (first, second) = digits_of_both(n.m, k.m);
+        let d = digits_from(n.m, first);
+        let first = root_value(b, n, d);
+        let e = digits_from(k.m, second);
+        let second = root_value(c, k, e);
+        return (first, second);
     }
-    let n = full_width(b);
-    let k = full_width(c);
-    let (first, second) = digits_of_both(n.m, k.m);
-    let d = digits_from(n.m, first);
-    let first = root_value(b, n, d);
-    let e = digits_from(k.m, second);
-    let second = root_value(c, k, e);
-    (first, second)
+    (sqrt(x), sqrt(y))
 }

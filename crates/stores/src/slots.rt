@@ -1,5 +1,9 @@
 // Marked slots in a store: which slot is whose, and whether one is filled. A slot is a mark and six
 // coordinates for a face triangle; for a sphere triangle nine, and the three of b × c.
+//
+// A slot is a plain number, and a store a lent slice. A type for a slot of a store, or for a whole store, would be built beside each call
+// by the proof that the clauses ask; or the three functions that number slots, which take any index, would ask for one below 10.
+// Index and reflection are two parameters, as in the Rust: of a struct each of the three would take both out again.
 ghost use Rattle.std.specs.Prelude.{◌≡◌, ◌+◌, ◌^◌, ◌<◌, if◌then◌else◌};
 ghost use Rattle.stores.specs.Slots.{filled, face_slot, source_slot, sphere_slot};
 

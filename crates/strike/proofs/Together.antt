@@ -6,6 +6,7 @@ use Prim.Native.Nat.{ℕ, ◌≤◌}
 use native.Mathlib.Nat.{zero-add}
 use native.Mathlib.Omega.{arith}
 use lib.ListN.{length, take}
+use Rattle.std.proofs.lemmas.Bool.{or_parts}
 use Rattle.std.specs.declared.option.Option.{Option}
 use Rattle.std.specs.Io.KnownBytes.{Appends}
 use Rattle.std.proofs.KnownBytes.{Appends-trans}
@@ -23,11 +24,6 @@ use Rattle.strike_session.proofs.Results.{with_room}
 use Rattle.strike_reads.specs.Steps.{State, state_of, Roomy, begun, Ended, Passes, bytes_of, lines_of}
 use Rattle.strike_reads.proofs.Arrived.{put_start}
 use Rattle.strike_reads.proofs.Whole.{whole_session}
-
-neither : (x y : Bool) → (x || y) ≡ false → (x ≡ false) × (y ≡ false)
-neither true y z = absurd (true≢false z)
-neither false true z = absurd (true≢false z)
-neither false false z = (refl, refl)
 
 -- what was written of a line for which there is room
 first_line : (written : ℕ) (before out line : List ℕ) → LINE ≤ length before → WritesIfRoom (change before out) line written → take written out ≡ line
@@ -68,7 +64,7 @@ whole s₀ s₁ buffer end {opened = opened} {w = w} {x = x} {y = y} {z = z} {un
       record {
         taken = all.1.taken;
         given = λ (i : (unbegun || unended) ≡ false).
-            let both = neither unbegun unended i in
+            let both = or_parts unbegun unended i in
             let first = subst (Appends w x) head (begins both.0) in
             let third = subst (Appends y z) all.0.line_is (line both.1) in
             let lines = Appends-trans w x z _ _ first (Appends-trans x y z _ _ (all.1.given (none both.1)) third) in

@@ -105,20 +105,13 @@ fn run<R: Read, W: Write>(
     }
 }
 
-// So many zeros.
-fn zeros<const N: usize>() -> [u8; N]
-    ensures { N ≡ length result }
-{
-    [0; N]
-}
-
 fn main(rt: HostRuntime) {
     let mut frame = [0.0; FRAME];
     let mut face_store = [0.0; FACE_STORE];
     let mut sphere_store = [0.0; SPHERE_STORE];
     // as many bytes as one read brings at most: 6,553 whole records, and room for 6,554 lines
-    let mut buffer = zeros::<65536>();
-    let mut out = zeros::<262160>();
+    let mut buffer = [0; 65536];
+    let mut out = [0; 262160];
     run(
         &mut rt.stdin(),
         &mut rt.stdout(),

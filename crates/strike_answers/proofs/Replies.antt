@@ -1,11 +1,13 @@
 -- Records answered one after the other: the set after them, how many bytes their lines have, and one record more. Assumes nothing.
 use mathlib.Core.Path.{◌≡◌, refl, ap, ◌∙◌}
-use mathlib.Core.List.{List, ◌++◌}
-use Prim.Native.Nat.{ℕ, zero, suc, ◌+◌, ◌*◌, ◌-◌, ◌≤◌}
+use mathlib.Core.List.{List, [], ◌++◌}
+use Prim.Native.Nat.{ℕ, zero, suc, ◌+◌, ◌*◌, ◌/◌, ◌≤◌, ◌<◌}
 use native.Mathlib.Numerals.{add-one}
 use native.Mathlib.Omega.{arith}
 use lib.Ieee.{Float}
-use lib.ListN.{length, take, drop, length-append}
+use lib.ListN.{length, take, drop, get_or, length-append}
+use Rattle.std.proofs.lemmas.List.{get_or-take, drop-drop}
+use Rattle.std.specs.Simd.{first_chunks}
 use denote.Triple.Both.{Both}
 use Rattle.answer.specs.Given.{Given, answered, refused}
 use Rattle.arithmetic.specs.Arith.{Arith}
@@ -63,11 +65,18 @@ module _ (A : Arith) (table : List Float) (s : Set) (bytes : List ℕ) where
       let lines = writes_more sofar.lines (reply A table here r).lines then end (omega arith) one.lines in
       record { lines = writes_as lines _ more.0; left = one.left ∙ more.1 }
 
--- record k as the part that is lent
-pub part_is : (bytes : List ℕ) (k : ℕ) → take (k * 10 + 10 - k * 10) (drop (k * 10) bytes) ≡ record_at bytes k
-part_is bytes k =
-    let ten : k * 10 + 10 - k * 10 ≡ 10 = omega arith in
-    ap (λ (n : ℕ). take n (drop (k * 10) bytes)) ten
+-- record k among the first chunks of ten bytes
+chunk_is : (n k : ℕ) (bytes : List ℕ) → k < n → get_or (first_chunks 10 n bytes) k [] ≡ record_at bytes k
+chunk_is zero k bytes h = absurd (omega arith)
+chunk_is (suc n) zero bytes h = refl
+chunk_is (suc n) (suc k) bytes h =
+    let next : 10 + k * 10 ≡ suc k * 10 = omega arith in
+    chunk_is n k (drop 10 bytes) (omega arith) ∙ ap (take 10) (drop-drop (k * 10) 10 bytes ∙ ap (λ (m : ℕ). drop m bytes) next)
+
+-- the same of the chunks that a loop goes through
+pub part_is : (bytes : List ℕ) (count k : ℕ) (chunks : List (List ℕ)) → chunks ≡ first_chunks 10 (length bytes / 10) bytes
+    → count * 10 ≤ length bytes → k < count → get_or (take count chunks) k [] ≡ record_at bytes k
+part_is bytes count k chunks e fits h = get_or-take count chunks k [] h ∙ rw e (chunk_is (length bytes / 10) k bytes (omega (arith, fits)))
 
 -- a definition by another name
 pub replies_as : {set : Both Set Set} {out : Bytes} {at end : ℕ} {f : Set → Reply} (g : Set → Reply) → f set.entry ≡ g set.entry

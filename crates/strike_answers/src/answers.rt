@@ -17,7 +17,8 @@ use set::set::Set;
 use strike_records::line::{write_lon_lat, write_place, write_refusal};
 use strike_records::record::{Request, decode};
 
-// A record that asks for place.
+// A record that asks for place. It and `answer_unplace` are a match of two lines each: a trait of what is written, with its clauses in each
+// impl, is longer than both.
 fn answer_place(set: &mut Set<'_>, lonlat: LonLat, out: &mut [u8], at: usize) -> usize
     requires { at + LINE ≤ length out.old }
     ensures same { SameBuffers set.old set.new }
@@ -44,8 +45,8 @@ fn answer_unplace(set: &mut Set<'_>, point: Face, origin: u8, out: &mut [u8], at
 }
 
 // A record, whatever it asks for.
-fn answer_record(set: &mut Set<'_>, bytes: &[u8], out: &mut [u8], at: usize) -> usize
-    requires { (length bytes.now ≡ 10) × (at + LINE ≤ length out.old) }
+fn answer_record(set: &mut Set<'_>, bytes: &[u8; 10], out: &mut [u8], at: usize) -> usize
+    requires { at + LINE ≤ length out.old }
     ensures same { SameBuffers set.old set.new }
     ensures replies { Replies (between set.old set.new) (lent_bytes out) at result (λ s. reply ieee ORIGINS s bytes.now) }
 {
@@ -56,17 +57,17 @@ fn answer_record(set: &mut Set<'_>, bytes: &[u8], out: &mut [u8], at: usize) -> 
     }
 }
 
-// The first records of the input.
+// The first records of the input. Counted here: records cut by the caller would take `count` out of `replies`.
 pub fn answer_records(set: &mut Set<'_>, input: &[u8], out: &mut [u8], count: usize) -> usize
     requires { (count * 10 ≤ length input.now) × (count * LINE ≤ length out.old) }
     ensures same { SameBuffers set.old set.new }
     ensures replies { Replies (between set.old set.new) (lent_bytes out) 0 result
         (λ s. replies ieee ORIGINS s input.now count) }
 {
+    let records = input.as_chunks::<10>().0;
     let mut written: usize = 0;
-    for i in 0..count {
-        let at = i * 10;
-        written = answer_record(set, &input[at..at + 10], out, written);
+    for bytes in &records[..count] {
+        written = answer_record(set, bytes, out, written);
     }
     written
 }

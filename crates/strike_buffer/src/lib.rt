@@ -11,6 +11,7 @@ use strike_session::session::{FedBuffer, Stage};
 
 // Feeds a session from a buffer that holds the bytes that were not taken, first those that were kept and then
 // those that have just arrived. Those that are still not taken are at its start afterwards.
+// Cut here: a slice cut by the caller would take `filled` out of `FeedsBuffer`, and leave those bytes to the caller to move.
 pub fn feed_buffer(
     stage: Stage,
     set: &mut Set<'_>,

@@ -21,7 +21,7 @@ use Rattle.strike_answers.specs.Reply.{line_of, reply_to, reply}
 use Rattle.strike_session.specs.Session.{session, program}
 use Rattle.opening.specs.Opening.{Without8}
 use Rattle.strike_opening.specs.Strike.{set_after, Never7Or8}
-use Rattle.opening.proofs.Lists.{run_then}
+use Rattle.opening.proofs.Lists.{left_then}
 use Rattle.opening.proofs.Theorem.{open_answers, never_8}
 
 module _ (b : Set) where
@@ -32,9 +32,8 @@ module _ (b : Set) where
   -- one call more, that carries one projection
   next : (s : Set) (c : Call) (g : Given Used) → effect (standing ORIGINS s) c ≡ uses (alone g) → LeftBy s → LeftBy (set_used ieee s g)
   next s c g is h =
-      let before = run_then (opened ORIGINS b) h.0 c ∙ ap (λ (t : Standing). step t c) h.1 in
       let left_so = ap (after (standing ORIGINS s)) is ∙ ap (standing ORIGINS) (sym (alone_left s g)) in
-      (h.0 ++ c ∷ [], before ∙ left_so)
+      (h.0 ++ c ∷ [], left_then ORIGINS b h.0 c h.1 ∙ left_so)
 
   one : (s : Set) (r : Given Request) → LeftBy s → LeftBy (reply_to ieee ORIGINS s r).set
   one s (refused n) h = h

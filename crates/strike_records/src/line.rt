@@ -1,16 +1,17 @@
 // The lines of answers and refusals. Each function writes from a place on, and returns the place
-// behind what it wrote. The digits are written by hand: the memory is fixed, and std's Display says
-// what it writes of a String alone, which needs a heap.
+// behind what it wrote. The digits are written by hand, here and in crate decimal: the memory is fixed, and std's
+// Display says what it writes of a String alone, which needs a heap.
 ghost use Rattle.std.specs.Prelude.{◌≡◌, [], ◌∷◌, ◌+◌, ◌≤◌, ◌<◌, length};
 ghost use Rattle.strike_records.specs.Line.{SPACE, LINE as the_line, digit as Line·digit, hex, decimal, bits_of, fields, place_line, lon_lat_line, refusal_line};
 ghost use Rattle.strike_records.specs.Writes.{Writes, lent_bytes};
 
 use answer::bits;
 use coordinates::lonlat::LonLat;
+use decimal::write_number;
 use dodecahedron::place::Place;
 
-// Room for any line. The three that write a line ask for it: what they write is counted by the place that they return, which a
-// struct of the slice and the place would have to hand back all the same.
+// Room for any line. Those that write a line, here and in `strike_answers`, ask for it: what they write is counted by the place
+// that they return, which a struct of the slice and the place would have to hand back all the same.
 pub const LINE: usize = 40;
 
 // The letter of a digit below 16.
@@ -21,7 +22,8 @@ fn digit(d: u8) -> u8
     if d < 10 { b'0' + d } else { b'a' - 10 + d }
 }
 
-// The sixteen digits of a number, the last one first.
+// The sixteen digits of a number, the last one first. By the place, which the invariant speaks of: with `run.iter_mut().rev()` it would have
+// to speak of the places that are lent, from the end. A slice of 16: a part of the line is lent.
 fn write_hex(run: &mut [u8], bits: u64)
     requires { length run.old ≡ 16 }
     ensures { run.new ≡ hex 16 bits }
@@ -43,25 +45,28 @@ fn write_bits(out: &mut [u8], at: usize, x: f64) -> usize
     at + 17
 }
 
+// How many digits a number has in decimal.
+#[tactic(auto, unfolding(crate::specs::Line::decimal))]
+fn digits(n: u8) -> usize
+    ensures count { result ≡ length (decimal n) }
+    ensures few { (0 < result) × (result ≤ 3) }
+{
+    match n {
+        0..=9 => 1,
+        10..=99 => 2,
+        _ => 3,
+    }
+}
+
 // A space and a decimal number.
 fn write_decimal(out: &mut [u8], at: usize, n: u8) -> usize
     requires { at + 4 ≤ length out.old }
     ensures { Writes (lent_bytes out) at (SPACE ∷ decimal n) result }
 {
+    let end = at + 1 + digits(n);
     out[at] = b' ';
-    if n < 10 {
-        out[at + 1] = b'0' + n;
-        return at + 2;
-    }
-    if n < 100 {
-        out[at + 1] = b'0' + n / 10;
-        out[at + 2] = b'0' + n % 10;
-        return at + 3;
-    }
-    out[at + 1] = b'0' + n / 100;
-    out[at + 2] = b'0' + n / 10 % 10;
-    out[at + 3] = b'0' + n % 10;
-    at + 4
+    write_number(&mut out[at + 1..end], u64::from(n));
+    end
 }
 
 // Two floats, and the end of the line.
@@ -94,7 +99,8 @@ pub fn write_lon_lat(out: &mut [u8], at: usize, lonlat: LonLat) -> usize
     write_pair(out, at + 1, lonlat.longitude.0, lonlat.latitude.0)
 }
 
-// A refusal: R and its number.
+// A refusal: R and its number. A number, not a Refusal: the clause holds for every number, and a narrower type would
+// ask more of a caller.
 pub fn write_refusal(out: &mut [u8], at: usize, number: u8) -> usize
     requires { at + the_line ≤ length out.old }
     ensures { Writes (lent_bytes out) at (refusal_line number) result }

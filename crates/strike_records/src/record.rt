@@ -58,8 +58,7 @@ pub fn face(bytes: &[u8], at: usize) -> Face
 }
 
 // What a record of ten bytes asks for: kind 1 is place and needs the origin byte 0, kind 2 is unplace.
-pub fn decode(bytes: &[u8]) -> Result<Request, Refusal>
-    requires { length bytes.now ≡ 10 }
+pub fn decode(bytes: &[u8; 10]) -> Result<Request, Refusal>
     ensures { given result ≡ request_in ieee bytes.now }
 {
     match (bytes[0], bytes[1]) {

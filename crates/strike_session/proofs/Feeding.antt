@@ -21,16 +21,6 @@ use Rattle.strike_session.specs.Pieces.{answerable, Fed, still, wrong_header, re
 use Rattle.strike_session.specs.declared.session.Stage.{Stage}
 use Rattle.strike_session.specs.declared.session.Stage.TheVariants.{Header, Records, Stopped}
 
--- a part up to the end
-pub tail_is : (l : List ℕ) (n : ℕ) → take (length l - n) (drop n l) ≡ drop n l
-tail_is l n = take_all (length l - n) (drop n l) (simp length-drop (omega arith))
-
--- no more is taken than there is
-pub take_min : (n : ℕ) (l : List ℕ) → take (min n (length l)) l ≡ take n l
-take_min zero l = ap (λ (k : ℕ). take k l) (zero-min (length l))
-take_min (suc n) [] = ap (λ (k : ℕ). take k []) (min-zero (suc n))
-take_min (suc n) (x ∷ l) = ap (λ (k : ℕ). take k (x ∷ l)) (suc-min-suc n (length l)) ∙ ap (λ (r : List ℕ). x ∷ r) (take_min n l)
-
 -- ---- the input's end
 module _ {n : ℕ} (stage : Stage) (k : ℕ) (at : stage ≡ Records n) where
   pub last_record : n ≡ 0 → end_line stage k ≡ []

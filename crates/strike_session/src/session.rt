@@ -36,7 +36,8 @@ pub struct Fed {
     pub written: usize,
 }
 
-// The same of a buffer: how many bytes at its start were not taken.
+// The same of a buffer: how many bytes at its start were not taken. A struct of its own, though Fed has the same types: `taken` and
+// `kept` count other bytes, and one name for both would say neither.
 #[derive(Clone, Copy)]
 pub struct FedBuffer {
     pub stage: Stage,

@@ -25,7 +25,8 @@ pub struct Standing {
     pub lost: bool,
 }
 
-// Writes lines. Whether the write failed, and lines are lost.
+// Writes lines. Whether the write failed, and lines are lost: a bool, here and in what the program's steps hand back, and no `Err`, since a
+// step whose write failed says still where it stands, with its set and its bytes, which an `Err` would not carry.
 pub fn loses<W: Write>(to: &mut W, lines: &[u8]) -> bool
     ensures { result ≡ false → Appends (W.contents to.old) (W.contents to.new) lines.now }
 {

@@ -20,12 +20,6 @@ headed_size b e =
     let rest = eqb (get_or b 0 0) 69 && eqb (get_or b 1 0) 65 && eqb (get_or b 2 0) 84 && eqb (get_or b 3 0) 0 && eqb (get_or b 4 0) 1 in
     eqb→eq (length b) SIZE (and_l (eqb (length b) SIZE) rest (rw e tt))
 
--- ---- not what was asked for
-
-pub is_so : (b : Bool) → not b ≡ false → b ≡ true
-is_so true e = refl
-is_so false e = sym e
-
 -- ---- by what is given
 
 pub gives : {X : Type 0} {g h : Given X} (a : Result (Unit {0}) Refusal) (old new : X) → g ≡ h → Gives h a old new → Gives g a old new

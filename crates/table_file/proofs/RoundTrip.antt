@@ -15,7 +15,7 @@ use Rattle.answer.specs.Number.{is_finite}
 use Rattle.answer.proofs.Given.{refuse_answered, then_answered}
 use Rattle.arithmetic.specs.Arith.{ieee}
 use Rattle.big_endian.specs.BigEndian.{double_in, double_bytes}
-use borrow.Author.Tests.{eq-eqb}
+use borrow.Author.Tests.{eq-eqb, not-false}
 use Rattle.std.proofs.lemmas.Bool.Decides.{Decides-eqb}
 use Rattle.std.proofs.lemmas.Slice.Eq.{starts_is}
 use Rattle.std.proofs.lemmas.List.Elements.{All-take, All-drop, All-from_get_or}
@@ -26,7 +26,7 @@ use Rattle.origin.proofs.Check.{passed_sound}
 use Rattle.origin.proofs.Sizes.{sound_finite}
 use Rattle.table_file.specs.TableFile.{SIZE, HEADER, headed, doubles, table_in, bytes_of_all, file_of, table_given, file_given}
 use Rattle.table_file.specs.RoundTrip.{Doubles, Bytes, RoundTrip}
-use Rattle.table_file.proofs.Outcome.{is_so, headed_size, loaded, saved}
+use Rattle.table_file.proofs.Outcome.{headed_size, loaded, saved}
 
 -- ---- from a table to its file and back
 
@@ -102,7 +102,8 @@ unfolding table_in file_of Numbers
 file_back file bytes head sound =
     let size = headed_size file head in
     let rest : length (drop 5 file) ≡ 8 * 84 = simp length-drop (omega arith) in
-    ap (λ (x : List ℕ). HEADER ++ x) (bytes_from_doubles 84 (drop 5 file) rest (All-drop (λ (x : ℕ). x < 256) 5 file bytes) (sound_finite (table_in file) sound))
+    ap (λ (x : List ℕ). HEADER ++ x) (bytes_from_doubles 84 (drop 5 file) rest (All-drop (λ (x : ℕ). x < 256) 5 file bytes)
+    (sound_finite (table_in file) sound))
     ∙ header_first file head
 
 loaded_saves : (file : List ℕ) (table : List Float) → Bytes file → table_given ieee file ≡ answered table → file_given ieee table SIZE ≡ answered file
@@ -111,7 +112,7 @@ loaded_saves file table h e =
     let r = refuse_answered (not (headed file)) 20 _ table e in
     let t = then_answered (check_table ieee (table_in file)) (answered (table_in file)) table r.1 in
     let same : table_in file ≡ table = let z = t.1 in cc in
-    let head = is_so (headed file) r.0 in
+    let head = not-false (headed file) r.0 in
     let back = file_back file (All-from_get_or (λ (x : ℕ). x < 256) file 0 h) head (passed_sound ieee (table_in file) t.0) in
     ap (λ (x : List Float). file_given ieee x SIZE) (sym same) ∙ saved ieee (table_in file) SIZE refl t.0 ∙ ap answered back
 

@@ -1,37 +1,42 @@
 -- The numbers that the code has for the quintants and for the squashed scale are what the definitions compute. Computed in `quick`. Assumes nothing.
 use mathlib.Core.Path.{◌≡◌, refl}
-use mathlib.Core.List.{List, [], ◌∷◌, map}
-use Prim.Native.Nat.{ℕ, zero, suc, ◌+◌, ◌*◌, ◌<◌}
+use mathlib.Core.List.{List, [], ◌∷◌}
+use Prim.Native.Nat.{ℕ, zero, suc, ◌<◌}
 use native.Mathlib.Omega.{arith}
 use lib.ListN.{get_or}
-use lib.Ieee.{Float, nan, binary64, of_bits}
+use lib.Ieee.{nan, binary64, of_bits}
 use Rattle.arithmetic.specs.Arith.{ieee}
 use Rattle.arithmetic.proofs.Quick.{quick, in_ieee}
 use Rattle.coordinates.specs.CoordinateTransforms.{face}
+use Rattle.coordinates.specs.declared.coords.Face.{Face}
 use Rattle.tiling.specs.Tiling.{get_quintant_vertices}
 use Rattle.tiling.specs.FaceTriangles.{squashed_scale}
 use Rattle.tiling.specs.declared.tiling.QuintantVertices.{QuintantVertices}
 
--- the table in the code, by its bits: a line for each quintant
-unfoldable table : List Float
+-- a quintant by the bits of its six coordinates
+unfoldable quintant : (a b c d e f : ℕ) → QuintantVertices
+quintant a b c d e f =
+    let point = λ (m n : ℕ). face (of_bits binary64 m) (of_bits binary64 n) in
+    record { center = point a b; corner1 = point c d; corner2 = point e f }
+
+-- the table in the code, by its bits
+unfoldable table : List QuintantVertices
+unfolding quintant
 table =
-    map (of_bits binary64)
-    (0 ∷ 0 ∷ 0x3fe3_c6ef_372f_e950 ∷ 0x3fdc_bcdf_d699_7ef2 ∷ 0x3fe3_c6ef_372f_e950 ∷ 0xbfdc_bcdf_d699_7ef2
-    ∷ 0 ∷ 0 ∷ 0xbfce_3779_b97f_4a7a ∷ 0x3fe7_3fd6_1d9d_f543 ∷ 0x3fe3_c6ef_372f_e950 ∷ 0x3fdc_bcdf_d699_7ef2
-    ∷ 0x8000_0000_0000_0000 ∷ 0 ∷ 0xbfe8_7221_91a0_2d62 ∷ 0x3ca8_0000_0000_0000 ∷ 0xbfce_3779_b97f_4a7a ∷ 0x3fe7_3fd6_1d9d_f544
-    ∷ 0 ∷ 0x8000_0000_0000_0000 ∷ 0xbfce_3779_b97f_4a82 ∷ 0xbfe7_3fd6_1d9d_f542 ∷ 0xbfe8_7221_91a0_2d62 ∷ 0x3c90_0000_0000_0000
-    ∷ 0 ∷ 0 ∷ 0x3fe3_c6ef_372f_e94f ∷ 0xbfdc_bcdf_d699_7ef6 ∷ 0xbfce_3779_b97f_4a81 ∷ 0xbfe7_3fd6_1d9d_f543 ∷ [])
+    quintant 0 0 0x3fe3_c6ef_372f_e950 0x3fdc_bcdf_d699_7ef2 0x3fe3_c6ef_372f_e950 0xbfdc_bcdf_d699_7ef2
+    ∷ quintant 0 0 0xbfce_3779_b97f_4a7a 0x3fe7_3fd6_1d9d_f543 0x3fe3_c6ef_372f_e950 0x3fdc_bcdf_d699_7ef2
+    ∷ quintant 0x8000_0000_0000_0000 0 0xbfe8_7221_91a0_2d62 0x3ca8_0000_0000_0000 0xbfce_3779_b97f_4a7a 0x3fe7_3fd6_1d9d_f544
+    ∷ quintant 0 0x8000_0000_0000_0000 0xbfce_3779_b97f_4a82 0xbfe7_3fd6_1d9d_f542 0xbfe8_7221_91a0_2d62 0x3c90_0000_0000_0000
+    ∷ quintant 0 0 0x3fe3_c6ef_372f_e94f 0xbfdc_bcdf_d699_7ef6 0xbfce_3779_b97f_4a81 0xbfe7_3fd6_1d9d_f543
+    ∷ []
+
+nowhere : Face
+nowhere = face nan nan
 
 -- the line of a quintant
 unfoldable pub line : ℕ → QuintantVertices
-unfolding table
-line q =
-    let at = q * 6 in
-    record {
-      center = face (get_or table at nan) (get_or table (at + 1) nan);
-      corner1 = face (get_or table (at + 2) nan) (get_or table (at + 3) nan);
-      corner2 = face (get_or table (at + 4) nan) (get_or table (at + 5) nan);
-    }
+unfolding table nowhere
+line q = get_or table q (record { center = nowhere; corner1 = nowhere; corner2 = nowhere })
 
 pub line_is : (q : ℕ) → q < 5 → line q ≡ get_quintant_vertices ieee q
 unfolding line get_quintant_vertices of_bits quick

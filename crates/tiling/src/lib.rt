@@ -1,4 +1,4 @@
-// The thirty triangles of a face, and the one that a point belongs to.
+// A face's triangles, by quintant. The one that a point belongs to is crate `triangle_index`.
 #![tactic(auto)]
 
 pub mod face_triangles;

@@ -15,44 +15,75 @@ pub struct QuintantVertices {
     pub corner2: Face,
 }
 
-// For each quintant x and y of its centre and its two corners: what the Rust computes once from the
-// figure and five rotations. The centre is turned too, which makes -0 of two zeros.
-const QUINTANTS: [f64; 30] = [
+// The five quintants: what the Rust computes once from the figure and five rotations. The centre is turned too, which makes
+// -0 of two zeros.
+const QUINTANTS: [QuintantVertices; 5] = [
     // quintant 0
-    0.0,
-    0.0,
-    0.6180339887498949,
-    0.4490279765795854,
-    0.6180339887498949,
-    -0.4490279765795854,
+    QuintantVertices {
+        center: Face(Vec2 { x: 0.0, y: 0.0 }),
+        corner1: Face(Vec2 {
+            x: 0.6180339887498949,
+            y: 0.4490279765795854,
+        }),
+        corner2: Face(Vec2 {
+            x: 0.6180339887498949,
+            y: -0.4490279765795854,
+        }),
+    },
     // quintant 1
-    0.0,
-    0.0,
-    -0.23606797749978964,
-    0.7265425280053609,
-    0.6180339887498949,
-    0.4490279765795854,
+    QuintantVertices {
+        center: Face(Vec2 { x: 0.0, y: 0.0 }),
+        corner1: Face(Vec2 {
+            x: -0.23606797749978964,
+            y: 0.7265425280053609,
+        }),
+        corner2: Face(Vec2 {
+            x: 0.6180339887498949,
+            y: 0.4490279765795854,
+        }),
+    },
     // quintant 2
-    -0.0, // the turned x of the centre
-    0.0,
-    -0.7639320225002104,
-    1.6653345369377348e-16,
-    -0.23606797749978964,
-    0.726542528005361,
+    QuintantVertices {
+        center: Face(Vec2 {
+            x: -0.0, // the turned x of the centre
+            y: 0.0,
+        }),
+        corner1: Face(Vec2 {
+            x: -0.7639320225002104,
+            y: 1.6653345369377348e-16,
+        }),
+        corner2: Face(Vec2 {
+            x: -0.23606797749978964,
+            y: 0.726542528005361,
+        }),
+    },
     // quintant 3
-    0.0,
-    -0.0, // the turned y of the centre
-    -0.23606797749978986,
-    -0.7265425280053608,
-    -0.7639320225002104,
-    5.551115123125783e-17,
+    QuintantVertices {
+        center: Face(Vec2 {
+            x: 0.0,
+            y: -0.0, // the turned y of the centre
+        }),
+        corner1: Face(Vec2 {
+            x: -0.23606797749978986,
+            y: -0.7265425280053608,
+        }),
+        corner2: Face(Vec2 {
+            x: -0.7639320225002104,
+            y: 5.551115123125783e-17,
+        }),
+    },
     // quintant 4
-    0.0,
-    0.0,
-    0.6180339887498948,
-    -0.4490279765795856,
-    -0.23606797749978983,
-    -0.7265425280053609,
+    QuintantVertices {
+        center: Face(Vec2 { x: 0.0, y: 0.0 }),
+        corner1: Face(Vec2 {
+            x: 0.6180339887498948,
+            y: -0.4490279765795856,
+        }),
+        corner2: Face(Vec2 {
+            x: -0.23606797749978983,
+            y: -0.7265425280053609,
+        }),
+    },
 ];
 
 // The centre and the two corners of quintant 0 to 4.
@@ -60,19 +91,5 @@ pub(crate) fn get_quintant_vertices(quintant: usize) -> QuintantVertices
     requires { quintant < 5 }
     ensures { result ≡ get_quintant_vertices ieee quintant }
 {
-    let at = quintant * 6;
-    QuintantVertices {
-        center: Face(Vec2 {
-            x: QUINTANTS[at],
-            y: QUINTANTS[at + 1],
-        }),
-        corner1: Face(Vec2 {
-            x: QUINTANTS[at + 2],
-            y: QUINTANTS[at + 3],
-        }),
-        corner2: Face(Vec2 {
-            x: QUINTANTS[at + 4],
-            y: QUINTANTS[at + 5],
-        }),
-    }
+    QUINTANTS[quintant]
 }

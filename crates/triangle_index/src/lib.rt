@@ -1,7 +1,7 @@
 // The triangle that a point belongs to, and whether it lies beyond the face's edge.
 #![tactic(auto)]
 
-ghost use Rattle.std.specs.Prelude.{◌≡◌};
+ghost use Rattle.std.specs.Prelude.{◌≡◌, ◌<◌};
 ghost use Rattle.arithmetic.specs.Arith.{ieee};
 ghost use Rattle.elementary.specs.Whole.{signed};
 ghost use Rattle.tiling.specs.Cut.{as_whole};
@@ -13,29 +13,31 @@ use elementary::whole::{floor, round};
 use float_parts::signs::{abs, negative};
 use remainder::remainder;
 use sine_inside::cos_inside;
+use std::f64::consts::{PI, TAU};
 
-const PI_OVER_5: f64 = 3.141592653589793 / 5.0;
+const PI_OVER_5: f64 = PI / 5.0;
 
-const TWO_PI_OVER_5: f64 = 6.283185307179586 / 5.0;
+const TWO_PI_OVER_5: f64 = TAU / 5.0;
 
 const DISTANCE_TO_EDGE: f64 = 0.6180339887498949;
 
-// 2^52, far above every quotient that a call has.
+// 2^52, far above every quotient that a call has. `elementary::whole` has this number for a reason of its own: from there on a value is whole.
 const LARGE: f64 = 4503599627370496.0;
 
-// The whole number k or -k, mod 10 and never negative.
-fn modulo(below: bool, k: u64) -> usize
+// The whole number k or -k, mod 10 and never negative. The same mod 4 stands in `sine_inside`, two lines as here: one function of both would
+// take the modulus as a const beside the sign and k, and its proof would be of any modulus.
+fn modulo(below: bool, k: u64) -> u8
     ensures { result ≡ modulo10 (signed below k) }
 {
     if below {
-        ((10 - k % 10) % 10) as usize
+        ((10 - k % 10) % 10) as u8
     } else {
-        (k % 10) as usize
+        (k % 10) as u8
     }
 }
 
 // The whole number x, mod 10 and never negative; 0 for a NaN and an infinity.
-fn whole_modulo(x: f64) -> usize
+fn whole_modulo(x: f64) -> u8
     ensures { result ≡ modulo10 (as_whole x) }
 {
     let a = abs(x);
@@ -50,8 +52,9 @@ fn whole_modulo(x: f64) -> usize
 }
 
 // The index of the triangle, 0 to 9.
-pub fn get_face_triangle_index(polar: Polar) -> usize
-    ensures { result ≡ triangle_index ieee polar.gamma }
+pub fn get_face_triangle_index(polar: Polar) -> u8
+    ensures index { result ≡ triangle_index ieee polar.gamma }
+    ensures below { result < 10 }
 {
     let quotient = polar.gamma.0 / PI_OVER_5;
     let whole = floor(quotient);

@@ -2,7 +2,7 @@
 use coordinates::coords::FaceTriangle;
 use stores::used::Used;
 
-// What is used, with the sphere triangle, and the face triangle.
+// What is used, with the sphere triangle, and the face triangle. No `Work`, which is what a call answers with: that stands above this crate.
 #[derive(Clone, Copy)]
 pub struct Taken {
     pub used: Used,

@@ -20,7 +20,8 @@ use set::sizes::FACE_WIDTH;
 use stores::slots::is_filled;
 use transforms::coordinate_transforms::to_cartesian;
 
-// The triangle of a run of coordinates, as it stands.
+// The triangle of a run of coordinates, as it stands. Runs are slices, as they are cut from a store: to be an array each would be tried for
+// its length once more, which is known.
 fn read_face(run: &[f64]) -> FaceTriangle
     requires { length run.now ≡ FACE_COORDINATES }
     ensures { result ≡ face_in run.now }
@@ -47,21 +48,9 @@ pub fn read_sphere(run: &[f64]) -> SphericalTriangle
     ensures { result ≡ sphere_in run.now }
 {
     SphericalTriangle {
-        a: Cartesian(Vec3 {
-            x: run[0],
-            y: run[1],
-            z: run[2],
-        }),
-        b: Cartesian(Vec3 {
-            x: run[3],
-            y: run[4],
-            z: run[5],
-        }),
-        c: Cartesian(Vec3 {
-            x: run[6],
-            y: run[7],
-            z: run[8],
-        }),
+        a: read_vector(&run[..3]),
+        b: read_vector(&run[3..6]),
+        c: read_vector(&run[6..]),
     }
 }
 
@@ -77,7 +66,7 @@ pub fn read_vector(run: &[f64]) -> Cartesian
     })
 }
 
-// The face triangle of a slot, as it stands or as it is defined.
+// The face triangle of a slot, as it stands or as it is defined. Why slot and store are of no type of their own, `stores::slots` says.
 pub fn take_face(store: &[f64], slot: usize) -> FaceTriangle
     requires { (slot < FACE_SLOTS) × (length store.now ≡ FACE_STORE) }
     ensures { result ≡ face_taken ieee store.now slot }

@@ -20,7 +20,7 @@ fn has_slots(set: SetRef<'_>, used: Used) -> bool
     check_call(set, used.origin).is_ok() && used.index < 10
 }
 
-// Writes the face slots that a call uses and that are empty.
+// Writes the face slots that a call uses and that are empty. Why index, reflection and store are of no type of their own, `stores::slots` says.
 fn write_faces(store: &mut [f64], index: u8, reflected: bool)
     requires { (index < 10) × (length store.old ≡ FACE_STORE) }
     ensures { store.new ≡ faces_written ieee store.old index reflected }

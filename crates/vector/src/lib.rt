@@ -19,11 +19,11 @@ pub fn triple_product(a: Cartesian, b: Cartesian, c: Cartesian) -> f64
 }
 
 // The vector's length.
-#[tactic(auto, unfolding(coordinates::specs::Vector::length))]
+#[tactic(auto, unfolding(coordinates::specs::Vector::length, coordinates::specs::Vector::dot))]
 pub fn length(v: Cartesian) -> f64
     ensures { result ≡ length ieee v }
 {
-    square_root::root::sqrt(v.0.x * v.0.x + v.0.y * v.0.y + v.0.z * v.0.z)
+    square_root::root::sqrt(dot(v, v))
 }
 
 // a - b

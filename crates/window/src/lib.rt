@@ -7,7 +7,13 @@ ghost use Rattle.window.specs.Window.{empty_window};
 ghost use Rattle.window.specs.Addition.{AddedTo};
 
 use answer::Refusal;
-use window_ring::{lower_counts, raise_count, remaining};
+use window_ring::{ORIGINS, PLACES, lower_counts, raise_count, remaining};
+
+// The most strikes that a window keeps: one in each place of the ring.
+const MOST: u32 = 4096;
+
+// The last of the origins' ids.
+const LAST_ORIGIN: u8 = 11;
 
 // What a window knows beside its strikes and counts: the place of the oldest strike, how many are kept, and the minute of
 // the last one accepted.
@@ -25,9 +31,9 @@ pub struct State {
 #[repr(C)]
 #[derive(Drop)]
 pub struct Window {
-    pub minutes: [u32; 4096],
-    pub origins: [u8; 4096],
-    pub counts: [u32; 12],
+    pub minutes: [u32; PLACES],
+    pub origins: [u8; PLACES],
+    pub counts: [u32; ORIGINS],
     pub state: State,
 }
 
@@ -37,9 +43,9 @@ impl Window {
         ensures { result ≡ empty_window }
     {
         Window {
-            minutes: [0; 4096],
-            origins: [0; 4096],
-            counts: [0; 12],
+            minutes: [0; PLACES],
+            origins: [0; PLACES],
+            counts: [0; ORIGINS],
             state: State {
                 first: 0,
                 kept: 0,
@@ -53,23 +59,23 @@ impl Window {
     pub fn add(&mut self, minute: u32, origin: u8) -> Result<(), Refusal>
         ensures { AddedTo self.old minute origin result self.new }
     {
-        if origin > 11 {
+        if origin > LAST_ORIGIN {
             return Err(Refusal::UnknownOrigin);
         }
         if minute < self.state.last {
             return Err(Refusal::EarlierMinute);
         }
         let first = self.state.first;
-        let n = self.state.kept.min(4096);
+        let n = self.state.kept.min(MOST);
         let k = remaining(&self.minutes, minute, n, first);
-        if k >= 4096 {
+        if k >= MOST {
             return Err(Refusal::WindowFull);
         }
         let gone = n.saturating_sub(k);
         lower_counts(&self.origins, &mut self.counts, gone, first);
         raise_count(&mut self.counts, origin);
-        let oldest = ((first as usize) + (gone as usize)) % 4096;
-        let at = (oldest + (k as usize)) % 4096;
+        let oldest = ((first as usize) + (gone as usize)) % PLACES;
+        let at = (oldest + (k as usize)) % PLACES;
         self.minutes[at] = minute;
         self.origins[at] = origin;
         self.state = State {

@@ -26,7 +26,8 @@ pub none_left : (ms : List ℕ) (m n g at : ℕ) → n ≤ g → 0 ≡ remain ms
 unfolding remain
 none_left ms m n g at l = rw (over n g l)
 
-pub one_off : (os : List ℕ) (n g at : ℕ) (counts : List ℕ) → g < n → lowered os (n - (g + 1)) (next at) (lower counts (get_or os at 0)) ≡ lowered os (n - g) at counts
+pub one_off : (os : List ℕ) (n g at : ℕ) (counts : List ℕ) → g < n
+    → lowered os (n - (g + 1)) (next at) (lower counts (get_or os at 0)) ≡ lowered os (n - g) at counts
 unfolding lowered
 one_off os n g at counts l = rw (here n g l)
 

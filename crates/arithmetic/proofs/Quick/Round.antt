@@ -79,7 +79,8 @@ exact s num den j k e h =
     let U = mul-pos D (pow_pos k) in
     let p : 2 ^ 1074 ≡ 2 ^ j * 2 ^ k = ap (λ (z : ℕ). 2 ^ z) (sym e) ∙ pow-add 2 j k in
     let x : n * den ≡ num * 2 ^ j * (den * 2 ^ k) = ap (λ (z : ℕ). num * z * den) p ∙ simp (mul_assoc, mul_comm, mul_left_comm) in
-    let d : size (n / den) - 53 ≡ k = sized (n / den) k (ap (λ (z : ℕ). z / 2 ^ 52) (div-div-eq-div-mul n den (2 ^ k) ∙ div_same n (den * 2 ^ k) (num * 2 ^ j) den U D x) ∙ h) in
+    let d : size (n / den) - 53 ≡ k = sized (n / den) k (ap (λ (z : ℕ). z / 2 ^ 52)
+    (div-div-eq-div-mul n den (2 ^ k) ∙ div_same n (den * 2 ^ k) (num * 2 ^ j) den U D x) ∙ h) in
     let b : closest (num * 2 ^ j) den ≤ 2 ^ 53 = le_trans (nearest-le q (compare (num * 2 ^ j % den * 2) den)) (omega arith) in
     qodd_is 54 s (closest (num * 2 ^ j) den) k 1074
     ∙ sym (units_is s (closest (num * 2 ^ j) den) k b (omega arith))
@@ -109,8 +110,8 @@ tries_is (suc d) g s num den =
 
 -- ---- the guess
 
--- How many binary digits a number has, if it has a to a + 2 ^ k - 1, by halving that range. What is compared with stands before the λ, so that it is computed once
--- and not for each number.
+-- How many binary digits a number has, if it has a to a + 2 ^ k - 1, by halving that range. What is compared with stands before the λ, so that it is
+-- computed once and not for each number.
 unfoldable pub digits_from : ℕ → ℕ → ℕ → ℕ
 digits_from zero a = λ n. a
 digits_from (suc k) a =
@@ -124,8 +125,8 @@ unfoldable pub digits : ℕ → ℕ
 unfolding digits_from
 digits = digits_from 8 0
 
--- den has z + 1 digits. The first guess is right where den is a power of two, and the first or the second otherwise. For a wrong z, a very large or a very small
--- fraction none may be, and the result is still `round`'s.
+-- den has z + 1 digits. The first guess is right where den is a power of two, and the first or the second otherwise. For a wrong z, a very large or a
+-- very small fraction none may be, and the result is still `round`'s.
 unfoldable pub qround : ℕ → Bool → ℕ → ℕ → Float
 unfolding tries digits
 qround z s num den = tries 2 (53 + z - digits num) s num den

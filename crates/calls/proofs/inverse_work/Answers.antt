@@ -1,63 +1,24 @@
--- `inverse_work` meets its contract: refused by its checks, or what its core comes to. Assumes nothing.
+-- `inverse_work` meets its contract: what it shares with unplace, and its own end. Assumes nothing.
 use mathlib.Core.Path.{sym, ap, ◌∙◌}
 use Rattle.answer.specs.Answer.{given}
-use Rattle.answer.proofs.Given.{handed_on, then_passed}
-use Rattle.arithmetic.specs.Arith.{ieee}
-use Rattle.dodecahedron.proofs.Ended.{inverse_is}
-use Rattle.dodecahedron.proofs.Steps.{by_tests, by_own, by_core, by_end, by_answer}
-use Rattle.calls.proofs.Passed.{on_origin}
+use Rattle.answer.proofs.Given.{handed_on}
+use Rattle.dodecahedron.proofs.Steps.{by_core, by_end, by_answer}
+use Rattle.calls.proofs.Ends.{inverse_ends}
 use Rattle.calls.proofs.inverse_work.Goals as goal
-
-pub returns-in_err-check_call : goal.returns-in_err-check_call
-returns-in_err-check_call g c =
-    let tests = sym c.check_call.ensures ∙ ap given c.in_err-check_call.was in
-    handed_on _ _ c.from_residual.ensures ∙ sym (inverse_is ieee _ _ _ _ ∙ by_tests _ _ _ _ _ tests)
-
-pub returns-in_err-check_face : goal.returns-in_err-check_face
-returns-in_err-check_face g c =
-    let tests = sym c.check_call.ensures ∙ ap given c.in_ok-check_call.was in
-    let own = sym c.check_face.ensures ∙ ap given c.in_err-check_face.was in
-    handed_on _ _ c.from_residual-in_err-check_face.ensures ∙ sym (inverse_is ieee _ _ _ _ ∙ by_own _ _ _ _ _ tests own)
-
-pub get_origin-requires : goal.get_origin-requires
-get_origin-requires g c =
-    let tests = sym c.check_call.ensures ∙ ap given c.in_ok-check_call.was in
-    let own = sym c.check_face.ensures ∙ ap given c.in_ok-check_face.was in
-    (on_origin _ _ _ _ (then_passed _ _ tests ∙ own)).0.origin
-
-pub invariant_of-sound : goal.invariant_of-sound
-invariant_of-sound g c =
-    let tests = sym c.check_call.ensures ∙ ap given c.in_ok-check_call.was in
-    let own = sym c.check_face.ensures ∙ ap given c.in_ok-check_face.was in
-    let known = (on_origin _ _ _ _ (then_passed _ _ tests ∙ own)).0 in
-    record { small = rw c.get_origin.ensures known.angle }
-
-pub invariant_of-on : goal.invariant_of-on
-invariant_of-on g c =
-    let tests = sym c.check_call.ensures ∙ ap given c.in_ok-check_call.was in
-    let own = sym c.check_face.ensures ∙ ap given c.in_ok-check_face.was in
-    let known = (on_origin _ _ _ _ (then_passed _ _ tests ∙ own)).0 in
-    record { passes = known.set }
 
 pub returns-in_err-core : goal.returns-in_err-core
 returns-in_err-core g c =
-    let tests = sym c.check_call.ensures ∙ ap given c.in_ok-check_call.was in
-    let own = sym c.check_face.ensures ∙ ap given c.in_ok-check_face.was in
-    let core = sym (rw c.get_origin.ensures at c.inverse_core.ensures) ∙ ap given c.in_err-core.was in
-    handed_on _ _ c.from_residual-in_err-core.ensures ∙ sym (inverse_is ieee _ _ _ _ ∙ by_core _ _ _ _ _ tests own core)
+    let core = sym c.inverse_tested.ensures ∙ ap given c.in_err-core.was in
+    handed_on _ _ c.from_residual.ensures ∙ by_core _ _ _ core ∙ inverse_ends _ _ _ _
 
 pub returns-in_err-answer : goal.returns-in_err-answer
 returns-in_err-answer g c =
-    let tests = sym c.check_call.ensures ∙ ap given c.in_ok-check_call.was in
-    let own = sym c.check_face.ensures ∙ ap given c.in_ok-check_face.was in
-    let core = sym (rw c.get_origin.ensures at c.inverse_core.ensures) ∙ ap given c.in_ok-core.was in
+    let core = sym c.inverse_tested.ensures ∙ ap given c.in_ok-core.was in
     let ends = sym c.finite_spherical.ensures ∙ ap given c.in_err-answer.was in
-    handed_on _ _ c.from_residual-in_err-answer.ensures ∙ sym (inverse_is ieee _ _ _ _ ∙ by_end _ _ _ _ _ _ tests own core ends)
+    handed_on _ _ c.from_residual-in_err-answer.ensures ∙ by_end _ _ _ _ core ends ∙ inverse_ends _ _ _ _
 
 pub returns : goal.returns
 returns g c =
-    let tests = sym c.check_call.ensures ∙ ap given c.in_ok-check_call.was in
-    let own = sym c.check_face.ensures ∙ ap given c.in_ok-check_face.was in
-    let core = sym (rw c.get_origin.ensures at c.inverse_core.ensures) ∙ ap given c.in_ok-core.was in
+    let core = sym c.inverse_tested.ensures ∙ ap given c.in_ok-core.was in
     let ends = sym c.finite_spherical.ensures ∙ ap given c.in_ok-answer.was in
-    sym (inverse_is ieee _ _ _ _ ∙ by_answer _ _ _ _ _ _ tests own core ends)
+    by_answer _ _ _ _ core ends ∙ inverse_ends _ _ _ _

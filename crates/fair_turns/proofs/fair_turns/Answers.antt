@@ -12,7 +12,8 @@ returns-then-wishes-ne-CHANNELS c = simp (ne_eqb _ _ c.if-wishes-ne-CHANNELS.tru
 
 pub returns-then-grants-ne-CHANNELS : goal.returns-then-grants-ne-CHANNELS
 unfolding turns_given
-returns-then-grants-ne-CHANNELS c = simp (eq-eqb _ _ c.if-wishes-ne-CHANNELS.false, ne_eqb _ _ c.if-grants-ne-CHANNELS.true) (record { answer = refl; grants = refl })
+returns-then-grants-ne-CHANNELS c = simp (eq-eqb _ _ c.if-wishes-ne-CHANNELS.false, ne_eqb _ _ c.if-grants-ne-CHANNELS.true)
+    (record { answer = refl; grants = refl })
 
 pub returns : goal.returns
 unfolding turns_given

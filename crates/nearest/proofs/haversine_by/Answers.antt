@@ -5,11 +5,11 @@ use Rattle.nearest.proofs.haversine_by.Goals as goal
 
 pub sin_inside-a1-requires : goal.sin_inside-a1-requires
 unfolding haversine
-sin_inside-a1-requires c = let h = c.requires in half_inside _ _ h.theta_value.1 h.theta_value_2.1
+sin_inside-a1-requires c = let h = c.requires in half_inside _ _ h.point.1 h.axis.1
 
 pub sin_inside-a2-requires : goal.sin_inside-a2-requires
 unfolding haversine
-sin_inside-a2-requires c = let h = c.requires in half_inside _ _ h.theta_value.0 h.theta_value_2.0
+sin_inside-a2-requires c = let h = c.requires in half_inside _ _ h.point.0 h.axis.0
 
 pub returns : goal.returns
 unfolding haversine

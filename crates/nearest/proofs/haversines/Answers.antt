@@ -1,4 +1,5 @@
--- `haversines` meets its contract: each of the twelve is put together from shared parts. Assumes nothing.
+-- `haversines` meets its contract: each of the twelve is put together from shared parts. That none of the halves is outside is answered for
+-- each: a `tactic` line on the function opens no definition of the logic's, and an axis's angle is an `of_bits`. Assumes nothing.
 use mathlib.Core.Path.{refl, sym, ap, ◌∙◌}
 use mathlib.Core.List.{List, [], ◌∷◌}
 use Prim.Native.Nat.{ℕ}
@@ -24,20 +25,20 @@ returns c =
     let z = c.sin_inside-s.ensures in
     let up = c.half_sine_squared-upper.ensures in
     let low = c.half_sine_squared-lower.ensures in
-    let none = c.half_sine_squared.ensures in
+    let none = c.half_sine_squared-t0.ensures in
     (λ i.
     joined p (axis 0) c.half_sine_squared-north.ensures none z axis_sines.north i ∷
     joined p (axis 1) up none z axis_sines.upper i ∷
-    joined p (axis 2) low c.half_sine_squared-2.ensures z axis_sines.lower i ∷
-    joined p (axis 3) low c.half_sine_squared-4.ensures z axis_sines.lower i ∷
-    joined p (axis 4) up c.half_sine_squared-3.ensures z axis_sines.upper i ∷
-    joined p (axis 5) up c.half_sine_squared-5.ensures z axis_sines.upper i ∷
-    joined p (axis 6) up c.half_sine_squared-7.ensures z axis_sines.upper i ∷
-    joined p (axis 7) low c.half_sine_squared-8.ensures z axis_sines.lower i ∷
-    joined p (axis 8) low c.half_sine_squared-6.ensures z axis_sines.lower i ∷
+    joined p (axis 2) low c.half_sine_squared-t1.ensures z axis_sines.lower i ∷
+    joined p (axis 3) low c.half_sine_squared-t3.ensures z axis_sines.lower i ∷
+    joined p (axis 4) up c.half_sine_squared-t2.ensures z axis_sines.upper i ∷
+    joined p (axis 5) up c.half_sine_squared-t4.ensures z axis_sines.upper i ∷
+    joined p (axis 6) up c.half_sine_squared-t6.ensures z axis_sines.upper i ∷
+    joined p (axis 7) low c.half_sine_squared-t7.ensures z axis_sines.lower i ∷
+    joined p (axis 8) low c.half_sine_squared-t5.ensures z axis_sines.lower i ∷
     joined p (axis 9) c.half_sine_squared-south.ensures none z axis_sines.south i ∷
-    joined p (axis 10) low c.half_sine_squared-10.ensures z axis_sines.lower i ∷
-    joined p (axis 11) up c.half_sine_squared-9.ensures z axis_sines.upper i ∷
+    joined p (axis 10) low c.half_sine_squared-t9.ensures z axis_sines.lower i ∷
+    joined p (axis 11) up c.half_sine_squared-t8.ensures z axis_sines.upper i ∷
     [])
     ∙ ap (λ (table : List Float). haversines ieee table p) (sym built_in)
 
@@ -57,42 +58,42 @@ pub half_sine_squared-south-requires : goal.half_sine_squared-south-requires
 unfolding beyond of_bits
 half_sine_squared-south-requires c = half_inside _ _ c.requires.1 refl
 
-pub half_sine_squared-requires : goal.half_sine_squared-requires
+pub half_sine_squared-t0-requires : goal.half_sine_squared-t0-requires
 unfolding beyond of_bits
-half_sine_squared-requires c = half_inside _ _ c.requires.0 refl
+half_sine_squared-t0-requires c = half_inside _ _ c.requires.0 refl
 
-pub half_sine_squared-requires-2 : goal.half_sine_squared-requires-2
+pub half_sine_squared-t1-requires : goal.half_sine_squared-t1-requires
 unfolding beyond of_bits
-half_sine_squared-requires-2 c = half_inside _ _ c.requires.0 refl
+half_sine_squared-t1-requires c = half_inside _ _ c.requires.0 refl
 
-pub half_sine_squared-requires-3 : goal.half_sine_squared-requires-3
+pub half_sine_squared-t2-requires : goal.half_sine_squared-t2-requires
 unfolding beyond of_bits
-half_sine_squared-requires-3 c = half_inside _ _ c.requires.0 refl
+half_sine_squared-t2-requires c = half_inside _ _ c.requires.0 refl
 
-pub half_sine_squared-requires-4 : goal.half_sine_squared-requires-4
+pub half_sine_squared-t3-requires : goal.half_sine_squared-t3-requires
 unfolding beyond of_bits
-half_sine_squared-requires-4 c = half_inside _ _ c.requires.0 refl
+half_sine_squared-t3-requires c = half_inside _ _ c.requires.0 refl
 
-pub half_sine_squared-requires-5 : goal.half_sine_squared-requires-5
+pub half_sine_squared-t4-requires : goal.half_sine_squared-t4-requires
 unfolding beyond of_bits
-half_sine_squared-requires-5 c = half_inside _ _ c.requires.0 refl
+half_sine_squared-t4-requires c = half_inside _ _ c.requires.0 refl
 
-pub half_sine_squared-requires-6 : goal.half_sine_squared-requires-6
+pub half_sine_squared-t5-requires : goal.half_sine_squared-t5-requires
 unfolding beyond of_bits
-half_sine_squared-requires-6 c = half_inside _ _ c.requires.0 refl
+half_sine_squared-t5-requires c = half_inside _ _ c.requires.0 refl
 
-pub half_sine_squared-requires-7 : goal.half_sine_squared-requires-7
+pub half_sine_squared-t6-requires : goal.half_sine_squared-t6-requires
 unfolding beyond of_bits
-half_sine_squared-requires-7 c = half_inside _ _ c.requires.0 refl
+half_sine_squared-t6-requires c = half_inside _ _ c.requires.0 refl
 
-pub half_sine_squared-requires-8 : goal.half_sine_squared-requires-8
+pub half_sine_squared-t7-requires : goal.half_sine_squared-t7-requires
 unfolding beyond of_bits
-half_sine_squared-requires-8 c = half_inside _ _ c.requires.0 refl
+half_sine_squared-t7-requires c = half_inside _ _ c.requires.0 refl
 
-pub half_sine_squared-requires-9 : goal.half_sine_squared-requires-9
+pub half_sine_squared-t8-requires : goal.half_sine_squared-t8-requires
 unfolding beyond of_bits
-half_sine_squared-requires-9 c = half_inside _ _ c.requires.0 refl
+half_sine_squared-t8-requires c = half_inside _ _ c.requires.0 refl
 
-pub half_sine_squared-requires-10 : goal.half_sine_squared-requires-10
+pub half_sine_squared-t9-requires : goal.half_sine_squared-t9-requires
 unfolding beyond of_bits
-half_sine_squared-requires-10 c = half_inside _ _ c.requires.0 refl
+half_sine_squared-t9-requires c = half_inside _ _ c.requires.0 refl

@@ -16,8 +16,8 @@ haversine_by-requires c =
     let k = c.loop-k.k in
     let o = sound_small c.args.table.rows.now c.args.table.sound k (omega arith) in
     record {
-      theta_value = c.requires;
-      theta_value_2 = rw c.origin_in.ensures (small_axis (origin_at c.args.table.rows.now k) o);
+      point = c.requires;
+      axis = rw c.origin_in.ensures (small_axis (origin_at c.args.table.rows.now k) o);
       sine_value = c.sin_inside-sine.ensures;
     }
 
@@ -30,7 +30,7 @@ loop-k-preserved c =
     let count = haversine_count ieee a.table.rows.now p in
     let here = haversine_at ieee a.table.rows.now p v.k (omega arith) in
     let d = rw c.origin_in.ensures at c.haversine_by.ensures in
-    (simp length-set v.invariant.0, filled_on hs v.distances v.k _ nan (omega arith) (omega arith) v.invariant.1 (d ∙ sym here))
+    (simp length-set v.invariant.0, rw c.from.ensures (filled_on hs v.distances v.k _ nan (omega arith) (omega arith) v.invariant.1 (d ∙ sym here)))
 
 pub returns : goal.returns
 returns c =

@@ -10,5 +10,5 @@ pub find_nearest_origin-requires : goal.find_nearest_origin-requires
 find_nearest_origin-requires g c =
     record {
       table_value = passed_sound ieee _ (sym c.check.ensures ∙ ap given c.in_ok-check.was);
-      theta_value = passed_inside c.args.point (sym c.check_spherical.ensures ∙ ap given c.in_ok-check_spherical.was);
+      point = passed_inside c.args.point (sym c.check_spherical.ensures ∙ ap given c.in_ok-check_spherical.was);
     }

@@ -25,7 +25,8 @@ slice_bounds-copy_from_slice-end c =
 
 pub copy_from_slice-requires : goal.copy_from_slice-requires
 copy_from_slice-requires c =
-    (with_passed ieee _ _ c.requires).0.frame ∙ sym (front_length _ (frame_rows ieee c.args.table.now) _ _ c.build_frame-used.ensures.rows (sym c.build_frame-used.ensures.used ∙ c.if-used-ne-FRAME.false))
+    (with_passed ieee _ _ c.requires).0.frame ∙ sym (front_length _ (frame_rows ieee c.args.table.now) _ _ c.build_frame-used.ensures.rows
+    (sym c.build_frame-used.ensures.used ∙ c.if-used-ne-FRAME.false))
 
 pub returns : goal.returns
 unfolding of_bits

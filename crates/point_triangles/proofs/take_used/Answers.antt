@@ -1,25 +1,17 @@
 -- `take_used` meets its contract. Assumes nothing.
 -- `small` says that the triangle's index is below 10, `fits` that the stores have their lengths and the origin is one of twelve.
 use mathlib.Core.Path.{sym, ap, ◌∙◌}
-use native.Mathlib.Omega.{arith}
-use Prim.Native.Nat.{◌<◌}
 use Rattle.answer.specs.Answer.{given}
 use Rattle.answer.proofs.Given.{handed_on}
 use Rattle.arithmetic.specs.Arith.{ieee}
-use Rattle.tiling.proofs.Modulo.{index_below_10}
 use Rattle.set.proofs.Lengths.{call_passed}
 use Rattle.stores.proofs.Within.{source_below, sphere_below}
 use Rattle.triangles.proofs.Within.{used_refused, used_answered}
 use Rattle.point_triangles.proofs.take_used.Goals as goal
 
-pub overflow_cast-index : goal.overflow_cast-index
-overflow_cast-index c =
-    let small : c.get_face_triangle_index-index.result < 10 = rw c.get_face_triangle_index-index.ensures (index_below_10 ieee _) in
-    omega arith
-
 pub take_sphere-requires : goal.take_sphere-requires
 take_sphere-requires c =
-    let small : c.get_face_triangle_index-index.result < 10 = rw c.get_face_triangle_index-index.ensures (index_below_10 ieee _) in
+    let small = c.get_face_triangle_index-index.ensures.below in
     let fits = call_passed _ _ c.args.on.passes in
     let r = c.should_reflect-reflected.result in
     record {
@@ -29,7 +21,7 @@ take_sphere-requires c =
 
 pub take_cross-bxc-requires : goal.take_cross-bxc-requires
 take_cross-bxc-requires c =
-    let small : c.get_face_triangle_index-index.result < 10 = rw c.get_face_triangle_index-index.ensures (index_below_10 ieee _) in
+    let small = c.get_face_triangle_index-index.ensures.below in
     let fits = call_passed _ _ c.args.on.passes in
     (rw c.sphere_slot-slot.ensures (sphere_below _ _ c.should_reflect-reflected.result fits.1 small), fits.0.spheres)
 
@@ -40,7 +32,7 @@ returns-in_err-triangle c =
     let triangle = rw (c.sphere_slot-slot.ensures, c.source_slot-source.ensures) at c.take_sphere.ensures in
     let refused = sym triangle ∙ ap given c.in_err-triangle.was in
     handed_on _ _ c.from_residual.ensures
-    ∙ sym (used_refused ieee _ _ _ _ index.result reflect.result index.ensures reflect.ensures _ refused)
+    ∙ sym (used_refused ieee _ _ _ _ index.result reflect.result index.ensures.index reflect.ensures _ refused)
 
 pub returns : goal.returns
 returns c =
@@ -48,5 +40,5 @@ returns c =
     let index = c.get_face_triangle_index-index in
     let triangle = rw (c.sphere_slot-slot.ensures, c.source_slot-source.ensures) at c.take_sphere.ensures in
     let answered = sym triangle ∙ ap given c.in_ok-triangle.was in
-    let used = used_answered ieee _ _ _ _ index.result reflect.result index.ensures reflect.ensures _ answered in
+    let used = used_answered ieee _ _ _ _ index.result reflect.result index.ensures.index reflect.ensures _ answered in
     rw (c.take_cross-bxc.ensures, c.sphere_slot-slot.ensures) (sym used)

@@ -1,5 +1,5 @@
--- `region` meets its contract: `copy_in` reads the positions, `work` works the region out on the copies, and `write_out` writes
--- the points. Of these functions only the contracts are known (Whole.antt). Assumes nothing.
+-- `region` meets its contract: `work` works the region out, and `write_out` writes the points. Of these functions only the contracts
+-- are known (Whole.antt). Assumes nothing.
 use Rattle.std.proofs.Common.{ap}
 use Rattle.answer.specs.Answer.{given}
 use Rattle.answer.proofs.Given.{handed_on}
@@ -8,10 +8,10 @@ use Rattle.region.proofs.region.Goals as goal
 
 pub returns-in_err-done-clause-outlined : goal.returns-in_err-done-clause-outlined
 returns-in_err-done-clause-outlined g c =
-    region_refused (g.O.Origins.table c.args.origins) _ c.args.positions.now c.args.points.now _ _ _ c.copy_in-outline.ensures c.work.ensures.worked
+    region_refused (g.O.Origins.table c.args.origins) _ c.args.positions.now c.args.points.now _ _ c.work.ensures.worked
     _ _ (ap given c.in_err-done.was) (handed_on _ _ c.from_residual.ensures)
 
 pub returns-clause-outlined : goal.returns-clause-outlined
 returns-clause-outlined g c =
-    region_answered (g.O.Origins.table c.args.origins) _ c.args.positions.now c.args.points.now _ _ _ c.copy_in-outline.ensures c.work.ensures.worked
+    region_answered (g.O.Origins.table c.args.origins) _ c.args.positions.now c.args.points.now _ _ c.work.ensures.worked
     c.in_ok-done.done _ (ap given c.in_ok-done.was) c.write_out.ensures

@@ -1,5 +1,4 @@
 -- `of_sizes` meets its contract. Assumes nothing.
-use borrow.Author.Tests.{not-true, not-false}
 use mathlib.Core.Path.{◌≡◌, sym, ◌∙◌}
 use mathlib.Core.Bool.{true}
 use Prim.Native.Nat.{◌*◌, ◌%◌, ◌^◌}
@@ -31,7 +30,7 @@ module _ (c : Start) where
   back_b = of_bits-to_bits binary64 c.args.b held_b
 
 finite_a : (c : Else-not-is_finite) → is_finite (start c).args.a ≡ true
-finite_a c = sym c.is_finite.ensures ∙ not-false c.is_finite.result c.if-not-is_finite.false-raw
+finite_a c = sym c.is_finite.ensures ∙ c.if-not-is_finite.false
 
 finite_b : (c : goal.Then-b) → is_finite (start c.before).args.b ≡ true
 finite_b c = let s = start c.before in finite_divisor s.args.a s.args.b s.requires.1 (finite_a c.before) s.requires.2 c.if-b.true
@@ -42,7 +41,7 @@ returns-then-d-b c = once c.args.a c.args.b (held_b c.before) c.requires.0 c.req
 pub returns-then-not-is_finite : goal.returns-then-not-is_finite
 unfolding of_bits
 returns-then-not-is_finite c =
-    not_finite c.args.a c.args.b (sym c.is_finite.ensures ∙ not-true c.is_finite.result c.if-not-is_finite.true-raw)
+    not_finite c.args.a c.args.b (sym c.is_finite.ensures ∙ c.if-not-is_finite.true)
 
 pub float_to_bits-a : goal.float_to_bits-a
 float_to_bits-a c = finite_number (start c.before).args.a (finite_a c.before)

@@ -2,13 +2,8 @@
 use Rattle.std.proofs.Common.{ℕ, ◌*◌, ◌^◌, ◌<◌, arith}
 use Rattle.root_digits.specs.Digits.{Marked}
 use Rattle.root_digits.proofs.Round.{t_lt, y_lt, marked, next}
-use Rattle.root_digits.proofs.digits_from.Lts as lts
-use Rattle.root_digits.proofs.digits_from.Reads as reads
-use Rattle.root_digits.proofs.digits_from.Tie as tie
 use Rattle.root_digits.proofs.digits_from.Goals as goal
-
-abbrev At-loop-y : Type 0
-At-loop-y = lts.At-loop tie.the-claims reads.Pre reads.Post goal.the-invariant-loop-y goal.the-decreases-loop-y
+use Rattle.root_digits.proofs.digits_from.Goals.{At-loop-y}
 
 -- what bounds the words where the loop's test is reached
 module _ (at : At-loop-y) where

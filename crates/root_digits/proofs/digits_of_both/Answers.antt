@@ -1,17 +1,11 @@
 -- `digits_of_both` meets its contract. The loop's invariant is `Found` of each root, at one weight and one count of rounds; its measure is
 -- the weight of the next digit. Assumes nothing.
 use Rattle.std.proofs.Common.{ℕ, ◌*◌, ◌^◌, ◌<◌, arith}
-use lib.Bits.{bit_and}
+use lib.Bits.{bit_and, and_le_l, and_le_r}
 use Rattle.root_digits.specs.Digits.{Marked}
-use Rattle.root_digits.proofs.Common.{left_some, right_some}
 use Rattle.root_digits.proofs.Round.{t_lt, y_lt, marked, next}
-use Rattle.root_digits.proofs.digits_of_both.Lts as lts
-use Rattle.root_digits.proofs.digits_of_both.Reads as reads
-use Rattle.root_digits.proofs.digits_of_both.Tie as tie
 use Rattle.root_digits.proofs.digits_of_both.Goals as goal
-
-abbrev At-loop-r : Type 0
-At-loop-r = lts.At-loop tie.the-claims reads.Pre reads.Post goal.the-invariant-loop-r goal.the-decreases-loop-r
+use Rattle.root_digits.proofs.digits_of_both.Goals.{At-loop-r}
 
 -- what bounds the words where the loop's test is reached
 module _ (at : At-loop-r) where
@@ -51,10 +45,10 @@ module _ (turn : goal.Then-y-z-gt0) where
   in_common = omega arith
 
   y_left : 0 < at.loop-r.y
-  y_left = left_some at.loop-r.y at.loop-r.z in_common
+  y_left = omega (arith, in_common, and_le_l at.loop-r.y at.loop-r.z)
 
   z_left : 0 < at.loop-r.z
-  z_left = right_some at.loop-r.y at.loop-r.z in_common
+  z_left = omega (arith, in_common, and_le_r at.loop-r.y at.loop-r.z)
 
   t_digits : Marked at.loop-r.t at.loop-r.r
   t_digits = let l = at.loop-r in marked (first at) l.t l.y l.r l.rounds l.invariant.0 digit_left y_left

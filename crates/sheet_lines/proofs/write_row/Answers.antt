@@ -2,7 +2,7 @@
 use native.Mathlib.Omega.{arith}
 use Rattle.decimal.specs.Decimal.{decimal}
 use Rattle.sheet_lines.specs.Page.{right_aligned}
-use Rattle.sheet_columns.proofs.Number.{length_aligned}
+use Rattle.decimal.proofs.Columns.{length_aligned}
 use Rattle.sheet_lines.proofs.Lines.{with_origin, with_number}
 use Rattle.sheet_lines.proofs.write_row.Goals as goal
 

@@ -17,13 +17,8 @@ use Rattle.elementary.specs.Whole.{round_size, roundℤ}
 use Rattle.elementary.proofs.Fraction.{same_size}
 use Rattle.elementary.proofs.Turn.{quarters_most, quarters_few, few_finite, size_asks, nearest_is}
 use Rattle.elementary.proofs.Turn.{plus_float, minus_float, plus_quarter, minus_quarter}
-use Rattle.sine_inside.proofs.quarters.Lts as lts
-use Rattle.sine_inside.proofs.quarters.Reads as reads
-use Rattle.sine_inside.proofs.quarters.Tie as tie
 use Rattle.sine_inside.proofs.quarters.Goals as goal
-
-abbrev After-nearest_size-k : Type 0
-After-nearest_size-k = lts.After-nearest_size tie.the-claims reads.Pre reads.Post tie.handed_clauses
+use Rattle.sine_inside.proofs.quarters.Goals.{After-nearest_size-k}
 
 -- the count of quarter turns, q
 count : goal.Start → Float

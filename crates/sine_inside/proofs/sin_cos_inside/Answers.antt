@@ -1,20 +1,9 @@
 -- `sin_cos_inside` meets its contract. Assumes nothing.
-use mathlib.Core.Path.{◌≡◌, sym, ◌∙◌}
-use mathlib.Core.Bool.{true}
+use mathlib.Core.Path.{sym}
 use lib.Ieee.{of_bits}
-use Rattle.answer.specs.Number.{is_finite}
-use Rattle.elementary.proofs.Quarters.{otherwise_nan, by_turns}
+use Rattle.elementary.proofs.Quarters.{otherwise_nan}
 use Rattle.sine_inside.proofs.sin_cos_inside.Goals as goal
-use Rattle.sine_inside.proofs.sin_cos_inside.Goals.{Else-not-is_finite}
 
-pub returns-then-not-is_finite : goal.returns-then-not-is_finite
+pub returns-in-None : goal.returns-in-None
 unfolding of_bits
-returns-then-not-is_finite c = rw (otherwise_nan _ (sym c.is_finite.ensures ∙ c.if-not-is_finite.true))
-
-finite : (c : Else-not-is_finite) → is_finite c.args.x ≡ true
-finite c = sym c.is_finite.ensures ∙ c.if-not-is_finite.false
-
-pub returns : goal.returns
-returns c =
-    let same = by_turns c.args.x c.within_turn.result (rw c.well_formed.0.1 tt) (finite c.before.before.before) c.within_turn.ensures.left in
-    c.sin_cos_at.ensures ∙ c.to_quarter-t.ensures ∙ same
+returns-in-None c = sym (otherwise_nan _ c.in-None.ensures.none)

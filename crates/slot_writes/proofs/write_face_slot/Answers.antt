@@ -3,11 +3,11 @@ use Rattle.stores.specs.Slots.{slot_written}
 use Rattle.stores.specs.Used.{face_written}
 use Rattle.slot_writes.proofs.write_face_slot.Goals as goal
 
-pub returns-then-is_filled : goal.returns-then-is_filled
+pub returns-then-not-is_filled : goal.returns-then-not-is_filled
 unfolding face_written slot_written
-returns-then-is_filled c = simp (← c.is_filled.ensures, c.if-is_filled.true)
+returns-then-not-is_filled c =
+    simp (c.write_slot.ensures, c.face_run.ensures, c.face_triangle.ensures, ← c.is_filled.ensures, c.if-not-is_filled.true)
 
-pub returns : goal.returns
+pub returns-else-not-is_filled : goal.returns-else-not-is_filled
 unfolding face_written slot_written
-returns c =
-    simp (c.write_slot.ensures, c.face_run.ensures, c.face_triangle.ensures, ← c.is_filled.ensures, c.if-is_filled.false)
+returns-else-not-is_filled c = simp (← c.is_filled.ensures, c.if-not-is_filled.false)

@@ -11,4 +11,4 @@ pub returns : goal.returns
 unfolding of_bits
 returns c =
     let a = c.args in
-    put_marked a.store.now a.at (a.at + 1 + length a.numbers.now) 1·0 _ a.numbers.now (omega arith) c.write_run.ensures (omega arith)
+    put_marked a.store.now a.at (a.at + 1 + length a.numbers.now) 1·0 _ a.numbers.now (omega arith) c.copy_from_slice.ensures.after (omega arith)

@@ -5,5 +5,5 @@ use lib.Ieee.Bits.{of_bits-to_bits}
 use borrow.Author.Tests.{eqb-true}
 use Rattle.spherical_polygon.proofs.has_bits.Goals as goal
 
-pub returns-then-not-is_nan : goal.returns-then-not-is_nan
-returns-then-not-is_nan c e = sym (of_bits-to_bits binary64 c.args.x (rw c.well_formed.0.1 tt)) ∙ ap (of_bits binary64) (eqb-true _ _ e)
+pub returns : goal.returns
+returns c e = sym (of_bits-to_bits binary64 c.args.x (rw c.well_formed.0.1 tt)) ∙ ap (of_bits binary64) (sym c.bits.ensures ∙ eqb-true _ _ e)

@@ -8,7 +8,7 @@ use native.Mathlib.Omega.{arith}
 use borrow.Author.Rules.{rules}
 use lib.ListN.{length, take, drop, length-take, length-drop}
 use lib.Seq.{length-take-le}
-use Rattle.std.proofs.lemmas.List.{drop-take}
+use Rattle.std.proofs.lemmas.List.{drop-take, take_min}
 use Rattle.std.specs.List.{copy_within}
 use Rattle.arithmetic.specs.Arith.{ieee}
 use Rattle.origin.specs.Origins.{ORIGINS}
@@ -17,7 +17,6 @@ use Rattle.stores.specs.Slots.{put}
 use Rattle.strike_records.specs.Writes.{Writes, change}
 use Rattle.strike_session.specs.Pieces.{fed, left_over}
 use Rattle.strike_records.proofs.Written.{writes_as}
-use Rattle.strike_session.proofs.Feeding.{take_min}
 use Rattle.strike_session.proofs.Results.{feeds_as}
 use Rattle.strike_buffer.proofs.feed_buffer.Goals as goal
 
@@ -52,7 +51,8 @@ returns-clause-fed c =
     let within : taken ≤ min a.filled (length bytes) = omega (arith, call.ensures.within.0, end.ensures, length-take end.result bytes) in
     let copied = c.copy_within.ensures.after ∙ ap (λ (n : ℕ). copy_within bytes taken n 0) end.ensures ∙ moved bytes taken a.filled within in
     let long = left_length bytes taken a.filled in
-    let kept : Writes (change bytes c.copy_within.new.self) 0 (left_over bytes taken a.filled) (end.result - taken) = record { end_is = omega (arith, long, end.ensures); now_is = copied } in
+    let kept : Writes (change bytes c.copy_within.new.self) 0 (left_over bytes taken a.filled) (end.result - taken) =
+    record { end_is = omega (arith, long, end.ensures); now_is = copied } in
     record {
       stage_is = f.stage_is;
       kept = writes_as kept _ (ap (λ (n : ℕ). drop n (take a.filled bytes)) f.taken_is);

@@ -4,6 +4,7 @@ use mathlib.Core.Path.{refl, sym, ap, ◌∙◌}
 use mathlib.Core.List.{List}
 use Prim.Native.Nat.{ℕ}
 use lib.ListN.{length}
+use Rattle.std.proofs.lemmas.List.{take_rest}
 use Rattle.arithmetic.specs.Arith.{ieee}
 use Rattle.origin.specs.Origins.{ORIGINS}
 use Rattle.set.specs.Lent.{held}
@@ -12,7 +13,7 @@ use Rattle.strike_session.specs.Session.{MAX_RECORDS}
 use Rattle.strike_session.specs.Pieces.{answerable, wrong_header, records_fed}
 use Rattle.strike_session.specs.declared.session.Stage.TheVariants.{Header}
 use Rattle.strike_records.proofs.Written.{writes_as}
-use Rattle.strike_session.proofs.Feeding.{tail_is, fed_short, fed_headed, fed_narrow, fed_wrong}
+use Rattle.strike_session.proofs.Feeding.{fed_short, fed_headed, fed_narrow, fed_wrong}
 use Rattle.strike_session.proofs.Results.{feeds_as, feeds_none}
 use Rattle.strike_feed.proofs.feed_header.Goals as goal
 
@@ -30,7 +31,7 @@ returns-then-is_header-clause-fed c =
     let room = length a.out.now in
     let good = sym c.is_header.ensures ∙ c.if-is_header.true in
     let headed = fed_headed ieee ORIGINS s a.input.now room c.if-input-lt5.false good in
-    let behind = ap (λ (l : List ℕ). records_fed ieee ORIGINS 5 MAX_RECORDS s l (answerable MAX_RECORDS l room)) (tail_is a.input.now 5) in
+    let behind = ap (λ (l : List ℕ). records_fed ieee ORIGINS 5 MAX_RECORDS s l (answerable MAX_RECORDS l room)) (take_rest a.input.now 5) in
     feeds_as _ (behind ∙ sym headed) c.feed_records.ensures.fed
 
 pub returns-then-out-lt-LINE-clause-fed : goal.returns-then-out-lt-LINE-clause-fed

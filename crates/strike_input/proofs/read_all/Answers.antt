@@ -15,6 +15,7 @@ use Rattle.std.specs.declared.option.Option.{Option}
 use Rattle.strike_reads.specs.Steps.{State, state_of, Read, Stepped, Passes, step_bytes, step_lines, none, bytes_of, lines_of}
 use Rattle.strike_reads.proofs.Counted.{Counted, some_left, counted_first, counted_on}
 use Rattle.strike_reads.proofs.Passed.{stepped_on, none_lost, passes_on}
+use Rattle.strike_input.proofs.read_all.Invariants.{READS}
 use Rattle.strike_input.proofs.read_all.Goals as goal
 
 -- one read fewer is left
@@ -57,7 +58,7 @@ loop-read-preserved g c =
     let q = c.step-at in
     let t = state_of i.at.stage i.at.kept (held i.set) i.buffer in
     let u = state_of q.result.stage q.result.kept (held q.new.set) q.new.buffer in
-    let left = 42949672960 - i._read in
+    let left = READS - i._read in
     let lasting = subst (Counted left i.at.stage) (sym (length-take-le i.at.kept i.buffer inv.2)) inv.5 in
     let roomy : (length i.buffer / 10 + 1) * LINE ≤ length i.out = omega (arith, c.requires.1.1, inv.0, inv.1) in
     let lasts = counted_on left (length i.buffer) t u i.out q.new.out roomy q.result.ended q.result.lost q.ensures.stepped.0 c.if-at.false lasting in (
@@ -66,7 +67,7 @@ loop-read-preserved g c =
       q.ensures.held,
       one_more inv.0 inv.1 inv.4 inv.3 q.ensures.stepped,
       none_lost q.result.ended q.result.lost q.ensures.stepped.0 c.if-at.false,
-      subst (λ (n : ℕ). Counted n q.result.stage q.result.kept) (fewer 42949672960 i._read)
+      subst (λ (n : ℕ). Counted n q.result.stage q.result.kept) (fewer READS i._read)
           (subst (Counted (left - 1) q.result.stage) (length-take-le q.result.kept q.new.buffer q.ensures.held) lasts),
       search,
     )
@@ -86,5 +87,5 @@ returns-then-at g c =
 pub returns : goal.returns
 returns g c =
     let i = c.loop-read in
-    let some = some_left (42949672960 - i._read) i.at.stage i.at.kept i.invariant.5 in
+    let some = some_left (READS - i._read) i.at.stage i.at.kept i.invariant.5 in
     absurd (omega (arith, some, c.loop-read-test.false))

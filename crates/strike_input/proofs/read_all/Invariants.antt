@@ -1,11 +1,15 @@
 -- The loop's invariant: the standing is what the reads came to, with what they did to the reader and the writer; lengths are as they were; no lines are lost;
 -- and the reads that are left last for the bytes that the session can still take.
-use Prim.Native.Nat.{◌-◌}
+use Prim.Native.Nat.{ℕ, ◌-◌}
 use Rattle.std.proofs.Common.{◌≡◌, ◌≤◌, false, length}
 use Rattle.set.specs.Lent.{SameBuffers, held}
 use Rattle.strike_reads.specs.Steps.{state_of, Read, Passes, bytes_of, lines_of}
 use Rattle.strike_reads.proofs.Counted.{Counted}
 use Rattle.strike_input.proofs.read_all.Given as goal
+
+-- as many reads as the source has in READS
+abbrev pub READS : ℕ
+READS = 42949672960
 
 abbrev pub invariant-loop-read : goal.invariant-loop-read
 invariant-loop-read g l =
@@ -18,5 +22,5 @@ invariant-loop-read g l =
     × Passes (g.R.Read.remaining l.initial.from) (g.R.Read.remaining l.from) (g.W.Write.contents l.initial.to) (g.W.Write.contents l.to)
     (bytes_of r) (lines_of r) l.at.lost)
     × (l.at.lost ≡ false)
-    × Counted (42949672960 - l._read) l.at.stage l.at.kept
+    × Counted (READS - l._read) l.at.stage l.at.kept
     × SameBuffers l.fn.set l.set

@@ -22,7 +22,8 @@ returns-then-n-eq0-clause-stepped g c =
     let a = c.args in
     let r = c.read_behind-n in
     let same = ap (λ (l : List ℕ). record { stage = a.at.stage; set = held a.set.now; kept = l }) r.ensures.buffer_unchanged in
-    let none = subst (λ (n : ℕ). Consumes (g.R.Read.remaining a.from.now) (g.R.Read.remaining r.new.from) (take n (drop a.at.kept r.new.buffer))) c.if-n-eq0.true r.ensures.bytes in
+    let none = subst (λ (n : ℕ). Consumes (g.R.Read.remaining a.from.now) (g.R.Read.remaining r.new.from) (take n (drop a.at.kept r.new.buffer)))
+    c.if-n-eq0.true r.ensures.bytes in
     (rests same refl, record { taken = none; given = λ e. Appends-nil _ })
 
 pub returns-clause-stepped : goal.returns-clause-stepped
@@ -39,5 +40,9 @@ returns-clause-stepped g c =
     let fed = t.ensures.fed in
     let first = lines_first a.at.kept r.result a.buffer.now same fed in (
       feeds piece some within goes (next_is a.at.kept r.result a.buffer.now same fed) (lines_are a.at.kept r.result a.buffer.now same fed) c.loses-lost.result,
-      record { taken = r.ensures.bytes; given = λ e. subst (Appends (g.W.Write.contents a.to.now) (g.W.Write.contents c.loses-lost.new.to)) first (c.loses-lost.ensures e) },
+      record {
+        taken = r.ensures.bytes;
+        given = λ e. subst (Appends (g.W.Write.contents a.to.now) (g.W.Write.contents c.loses-lost.new.to)) first
+            (c.loses-lost.ensures e);
+      },
     )

@@ -3,13 +3,13 @@ use Rattle.std.proofs.Common.{◌∙◌, arith}
 use Rattle.window_ring.proofs.Loops.{stays, goes, none_left}
 use Rattle.window_ring.proofs.remaining.Goals as goal
 
-pub returns-then-saturating_sub-lt180 : goal.returns-then-saturating_sub-lt180
-returns-then-saturating_sub-lt180 c =
-    stays _ _ _ _ _ _ c.saturating_sub.ensures c.loop-gone-test.true c.if-saturating_sub-lt180.true ∙ c.loop-gone.invariant.1
+pub returns-then-saturating_sub-lt-SPAN : goal.returns-then-saturating_sub-lt-SPAN
+returns-then-saturating_sub-lt-SPAN c =
+    stays _ _ _ _ _ _ c.saturating_sub.ensures c.loop-gone-test.true c.if-saturating_sub-lt-SPAN.true ∙ c.loop-gone.invariant.1
 
 pub loop-gone-preserved : goal.loop-gone-preserved
 loop-gone-preserved c =
-    (omega arith, goes _ _ _ _ _ _ c.saturating_sub.ensures c.loop-gone-test.true c.if-saturating_sub-lt180.false ∙ c.loop-gone.invariant.1)
+    (omega arith, goes _ _ _ _ _ _ c.saturating_sub.ensures c.loop-gone-test.true c.if-saturating_sub-lt-SPAN.false ∙ c.loop-gone.invariant.1)
 
 pub returns : goal.returns
 returns c = none_left _ _ _ c.loop-gone.gone _ c.loop-gone-test.false ∙ c.loop-gone.invariant.1

@@ -1,38 +1,29 @@
 -- `round` meets its contract: a value with no fraction is its own, and any other's is made from the nearest size and its sign. Assumes nothing.
-use Rattle.std.proofs.Common.{◌≡◌, ◌*◌, ◌^◌, ◌≤◌, true, false, ap, ◌∙◌, arith}
-use borrow.Author.Tests.{not-false}
-use lib.Ieee.{Float, binary64, lt, of_int, of_bits}
+use Rattle.std.proofs.Common.{◌≡◌, ◌*◌, ◌^◌, ◌≤◌, true, false, not, ap, ◌∙◌, arith}
+use lib.Ieee.{Float, binary64, of_int, of_bits}
 use lib.Ieee.Positive.{num, den, den_pos}
 use Rattle.arithmetic.proofs.Rounding.{neg_round}
 use Rattle.elementary.specs.Whole.{round_size}
 use Rattle.float_parts.proofs.SignBit.{abs_positive}
-use Rattle.elementary.proofs.Fraction.{2^52, Below, below, same_size, Fraction, large_whole, equal, unequal, sign_is, round_back, round_whole, round_part}
-use Rattle.elementary.proofs.whole.round.Lts as lts
-use Rattle.elementary.proofs.whole.round.Reads as reads
-use Rattle.elementary.proofs.whole.round.Tie as tie
+use Rattle.elementary.proofs.Fraction.{Below, below, same_size, Fraction, large_whole, equal, unequal, sign_is, round_back, round_whole, round_part}
 use Rattle.elementary.proofs.whole.round.Goals as goal
-
-abbrev After-nearest_size-y : Type 0
-After-nearest_size-y = lts.After-nearest_size tie.the-claims reads.Pre reads.Post
-
-abbrev Else-y-a : Type 0
-Else-y-a = lts.Else2 tie.the-claims reads.Pre reads.Post
+use Rattle.elementary.proofs.whole.round.Goals.{After-nearest_size-y, Else-y-a}
 
 pub returns-then-not-a : goal.returns-then-not-a
 unfolding of_bits
 returns-then-not-a c =
     let x = c.args.x in
-    round_whole x (large_whole x c.abs-a.result (rw c.well_formed.0.1 tt) c.abs-a.ensures c.if-not-a.true-raw)
+    round_whole x (large_whole x c.abs-a.result (rw c.well_formed.0.1 tt) c.abs-a.ensures (ap not c.if-not-a.true))
 
 small : (c : goal.Else-not-a) → Below c.args.x c.abs-a.result
 unfolding of_bits
-small c = below c.args.x c.abs-a.result c.abs-a.ensures c.if-not-a.false-raw
+small c = below c.args.x c.abs-a.result c.abs-a.ensures (ap not c.if-not-a.false)
 
 pub nearest_size-y-requires : goal.nearest_size-y-requires
 unfolding of_bits
 nearest_size-y-requires c =
     let a = c.abs-a in
-    (abs_positive c.args.x a.result a.ensures, not-false (lt a.result 2^52) c.if-not-a.false-raw)
+    (abs_positive c.args.x a.result a.ensures, c.if-not-a.false)
 
 nearest : (c : After-nearest_size-y) → let x = c.args.x in c.nearest_size-y.result ≡ round_size (num x) (den x)
 nearest c =

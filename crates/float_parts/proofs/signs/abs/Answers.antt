@@ -1,25 +1,15 @@
 -- `abs` meets its contract: the sign bit is cleared, and a NaN stays. Assumes nothing.
 use mathlib.Core.Path.{sym, ap, ◌∙◌}
-use mathlib.Core.Bool.{not}
-use lib.Dec.{T}
-use lib.Ieee.{binary64, fits, is_nan}
 use Rattle.float_parts.specs.Signs.{abs}
 use Rattle.float_parts.proofs.SignBit.{cleared, cleared_number, the_nan}
 use Rattle.float_parts.proofs.signs.abs.Goals as goal
-use Rattle.float_parts.proofs.signs.abs.Goals.{Start}
-
-held : (c : Start) → T (fits binary64 c.args.x)
-held c = rw c.well_formed.0.1 tt
-
-number : (c : goal.Else-is_nan) → T (not (is_nan c.args.x))
-number c = c.if-is_nan.ensures.not_nan
 
 pub returns-then-is_nan : goal.returns-then-is_nan
 unfolding abs
 returns-then-is_nan c = let n = the_nan c.args.x (sym c.if-is_nan.ensures.value) in n ∙ ap abs (sym n)
 
 pub float_from_bits-result : goal.float_from_bits-result
-float_from_bits-result c = cleared_number c.args.x (held c.before.before) (number c)
+float_from_bits-result c = cleared_number c.args.x (rw c.well_formed.0.1 tt) c.if-is_nan.ensures.not_nan
 
 pub returns : goal.returns
-returns c = cleared c.args.x (held c.before.before) (number c)
+returns c = cleared c.args.x (rw c.well_formed.0.1 tt) c.if-is_nan.ensures.not_nan

@@ -1,49 +1,43 @@
--- `table::check_rows` meets its contract. The first loop's invariant: the numbers from this row on are sound exactly where the table's are; the
--- second's: the quaternions from this row on are unit exactly where all are. Assumes nothing.
-use mathlib.Core.Path.{◌≡◌, refl, sym, ap, ◌∙◌}
-use Prim.Native.Nat.{◌-◌}
-use native.Mathlib.Omega.{arith}
+-- `table::check_rows` meets its contract: twelve rows that pass a test, each by its number, are every row. Assumes nothing.
+use mathlib.Core.Path.{refl, sym, ◌∙◌}
+use Rattle.std.proofs.Common.{rules, tests}
+use Rattle.std.proofs.lemmas.Iterator.{YieldsList-from_range}
+use Rattle.std.proofs.lemmas.Iterator.Search.{all_from_yields_List}
 use Rattle.arithmetic.specs.Arith.{ieee}
-use Rattle.origin.specs.Table.{every_row, row_sound, numbers_sound, unit_rows}
-use Rattle.origin.proofs.table.check_rows.Invariants.{unit}
-use Rattle.origin.proofs.Check.{gives_21, gives_22, passes, row_fails, row_passes}
+use Rattle.origin.specs.Origins.{origin_at}
+use Rattle.origin.specs.Table.{every_row, row_sound, numbers_sound, is_unit, unit_rows}
+use Rattle.origin.proofs.Check.{gives_21, gives_22, passes}
 use Rattle.origin.proofs.table.check_rows.Goals as goal
 
-pub loop-k-init : goal.loop-k-init
-loop-k-init c = unfold numbers_sound in refl
-
-pub returns-then-not-row_sound : goal.returns-then-not-row_sound
-returns-then-not-row_sound c =
+pub returns-then-not-all : goal.returns-then-not-all
+unfolding every_row numbers_sound
+returns-then-not-all c =
     let table = c.args.table.now in
-    let fails = sym (c.row_sound.ensures ∙ ap row_sound c.origin_in.ensures) ∙ c.if-not-row_sound.true in
-    gives_21 ieee table (sym c.loop-k.invariant ∙ row_fails row_sound table 12 c.loop-k.k (omega arith) fails)
+    let sound =
+    all_from_yields_List (λ k. row_sound (origin_at table k)) _ _ c.all.result c.all.ensures.ran (YieldsList-from_range 0 12 12 refl refl)
+    (λ x b q k. search (rules, tests)) in
+    gives_21 ieee table (sym sound ∙ c.if-not-all.true)
 
-pub loop-k-preserved : goal.loop-k-preserved
-loop-k-preserved c =
-    let passes = sym (c.row_sound.ensures ∙ ap row_sound c.origin_in.ensures) ∙ c.if-not-row_sound.false in
-    row_passes row_sound c.args.table.now 12 c.loop-k.k (omega arith) passes ∙ c.loop-k.invariant
-
-pub loop-m-init : goal.loop-m-init
-unfolding every_row
-loop-m-init c =
-    let v = c.loop-k in
-    let none : 12 - v.k ≡ 0 = omega arith in
-    (sym (rw none at v.invariant), unfold unit_rows in refl)
-
-pub returns-then-not-is_unit : goal.returns-then-not-is_unit
-returns-then-not-is_unit c =
+pub returns-then-not-all-2 : goal.returns-then-not-all-2
+unfolding every_row numbers_sound unit_rows
+returns-then-not-all-2 c =
     let table = c.args.table.now in
-    let fails = sym (c.is_unit.ensures ∙ ap unit c.origin_in-in-loop-m.ensures) ∙ c.if-not-is_unit.true in
-    gives_22 ieee table c.loop-m.invariant.0 (sym c.loop-m.invariant.1 ∙ row_fails unit table 12 c.loop-m.m (omega arith) fails)
-
-pub loop-m-preserved : goal.loop-m-preserved
-loop-m-preserved c =
-    let passes = sym (c.is_unit.ensures ∙ ap unit c.origin_in-in-loop-m.ensures) ∙ c.if-not-is_unit.false in
-    (c.loop-m.invariant.0, row_passes unit c.args.table.now 12 c.loop-m.m (omega arith) passes ∙ c.loop-m.invariant.1)
+    let sound =
+    all_from_yields_List (λ k. row_sound (origin_at table k)) _ _ c.all.result c.all.ensures.ran (YieldsList-from_range 0 12 12 refl refl)
+    (λ x b q k. search (rules, tests)) in
+    let unit =
+    all_from_yields_List (λ k. is_unit ieee (origin_at table k).quat) _ _ c.all-2.result c.all-2.ensures.ran (YieldsList-from_range 0 12 12 refl refl)
+    (λ x b q k. search (rules, tests)) in
+    gives_22 ieee table (sym sound ∙ c.if-not-all.false) (sym unit ∙ c.if-not-all-2.true)
 
 pub returns : goal.returns
-unfolding every_row
+unfolding every_row numbers_sound unit_rows
 returns c =
-    let v = c.loop-m in
-    let none : 12 - v.m ≡ 0 = omega arith in
-    passes ieee c.args.table.now v.invariant.0 (sym (rw none at v.invariant.1))
+    let table = c.args.table.now in
+    let sound =
+    all_from_yields_List (λ k. row_sound (origin_at table k)) _ _ c.all.result c.all.ensures.ran (YieldsList-from_range 0 12 12 refl refl)
+    (λ x b q k. search (rules, tests)) in
+    let unit =
+    all_from_yields_List (λ k. is_unit ieee (origin_at table k).quat) _ _ c.all-2.result c.all-2.ensures.ran (YieldsList-from_range 0 12 12 refl refl)
+    (λ x b q k. search (rules, tests)) in
+    passes ieee table (sym sound ∙ c.if-not-all.false) (sym unit ∙ c.if-not-all-2.false)

@@ -1,8 +1,8 @@
--- `table::origin_in` meets its contract. Assumes nothing.
-use mathlib.Core.Path.{refl}
-use Rattle.origin.specs.Origins.{origin_at}
+-- `table::origin_in` meets its contract: the chunk at the index is the row. Assumes nothing.
+use native.Mathlib.Omega.{arith}
+use Rattle.origin.proofs.Chunks.{chunk_row}
 use Rattle.origin.proofs.table.origin_in.Goals as goal
 
 pub returns : goal.returns
-unfolding origin_at
-returns c = refl
+returns c =
+    rw c.from.ensures (chunk_row c.args.table.now c.as_chunks.result.0.now c.args.id c.as_chunks.ensures.front (omega (arith, c.told-table)))

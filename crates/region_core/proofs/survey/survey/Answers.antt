@@ -1,22 +1,17 @@
 -- `survey::survey` meets its contract: one turn of its loop. Assumes nothing.
-use Rattle.std.proofs.Common.{◌≤◌, ◌<◌, length, sym, ap, ◌∙◌, arith, rules}
-use lib.Ieee.{nan}
+use Rattle.std.proofs.Common.{◌<◌, length, sym, ap, ◌∙◌, arith, rules}
 use Rattle.answer.specs.Answer.{given}
 use Rattle.arithmetic.specs.Arith.{ieee}
-use Rattle.coordinates.specs.declared.lonlat.LonLat.{LonLat}
+use Rattle.list_parts.proofs.Loop.{nowhere}
 use Rattle.region_work.proofs.Loops.{survey_goes}
 use Rattle.region_core.proofs.survey.survey.Goals as goal
-
--- what the code reads of no position
-abbrev none : LonLat
-none = record { longitude = record { 0 = nan }; latitude = record { 0 = nan } }
 
 pub loop-i-preserved : goal.loop-i-preserved
 loop-i-preserved g c =
     let a = c.args in
     let table = g.O.Origins.table a.origins.now in
-    let fits : a.n ≤ length a.positions = omega arith in
+    let next : c.loop-i.i < length a.positions.now = omega arith in
     let long : c.loop-i.i < length c.loop-i.points = omega (arith, c.loop-i.invariant.0) in
     let placed = sym c.place_work.ensures ∙ ap given c.in_ok-done.was in
-    let goes = survey_goes ieee table _ _ _ a.n _ a.positions none c.loop-i-test.true fits _ _ _ long placed in
-    (search rules, goes c.slot_empty-empty.ensures c.see-seen.ensures ∙ c.loop-i.invariant.1)
+    let goes = survey_goes ieee table _ _ _ _ a.positions.now nowhere next _ _ _ long placed in
+    (search rules, goes c.slot_empty-empty.ensures c.take_in.ensures ∙ c.loop-i.invariant.1)

@@ -18,7 +18,8 @@ slice_range-put_mid : (a k n : ℕ) (xs ys : List ℕ) → a ≤ length xs → n
 slice_range-put_mid a k n xs ys within fits =
     let same : (a + n) - a ≡ n = omega arith in
     let after = post_of a k xs in
-    ap (take ((a + n) - a)) (drop_at (take a xs) (ys ++ after) a (length-take-le a xs within)) ∙ ap (λ (m : ℕ). take m (ys ++ after)) same ∙ take-append-le n ys after fits
+    ap (take ((a + n) - a)) (drop_at (take a xs) (ys ++ after) a (length-take-le a xs within)) ∙ ap (λ (m : ℕ). take m (ys ++ after)) same
+    ∙ take-append-le n ys after fits
 
 pub loop-done-preserved : goal.loop-done-preserved
 loop-done-preserved g c =
@@ -27,5 +28,10 @@ loop-done-preserved g c =
     let within = c.loop-done.invariant.1 in
     let n = c.in_ok-n.n in
     let part = slice_range-put_mid from room n c.loop-done.room c.read.new.buf within c.in_ok-n.ensures.bound.0 in
-    let joined = take_split from (from + n) c.loop-done.room (put_mid from room c.loop-done.room c.read.new.buf) (omega arith) (take-put_mid_below _ _ _ _ _ (le_refl _) within) in
-    (search rules, search rules, subst (Consumes _ _) (ap (λ (l : List ℕ). take from c.loop-done.room ++ l) (sym part) ∙ joined) (Consumes-trans _ _ _ _ _ c.loop-done.invariant.2 c.in_ok-n.ensures.bytes.0))
+    let joined = take_split from (from + n) c.loop-done.room (put_mid from room c.loop-done.room c.read.new.buf) (omega arith)
+    (take-put_mid_below _ _ _ _ _ (le_refl _) within) in (
+      search rules,
+      search rules,
+      subst (Consumes _ _) (ap (λ (l : List ℕ). take from c.loop-done.room ++ l) (sym part) ∙ joined)
+          (Consumes-trans _ _ _ _ _ c.loop-done.invariant.2 c.in_ok-n.ensures.bytes.0),
+    )

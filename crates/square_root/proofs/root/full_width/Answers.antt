@@ -8,18 +8,19 @@ use lib.Ieee.{binary64, of_bits}
 use Rattle.arithmetic.proofs.Count.{scale}
 use Rattle.arithmetic.proofs.Width.{scaled_half}
 use Rattle.float_parts.proofs.Digits.{Split, split_is}
+use Rattle.square_root.proofs.RootBits.{radicand_lo, radicand_hi}
 use Rattle.square_root.proofs.root.full_width.Goals as goal
 
-parts : (c : goal.After-split-p) → Split c.args.b c.split-p.result.m c.split-p.result.h
-parts c = split_is c.args.b c.split-p.result.m c.split-p.result.h c.split-p.ensures c.requires.0 c.requires.1
-
 pub widened-n-requires : goal.widened-n-requires
-widened-n-requires c = let p = parts c in (p.some, p.few, p.most)
+widened-n-requires c =
+    let s = c.split-p in
+    let p : Split c.args.b s.result.m s.result.h = split_is _ _ _ s.ensures c.requires.0 c.requires.1 in
+    (p.some, p.few, p.most)
 
-pub returns : goal.returns
-returns c =
-    let p = parts c.before.before.before.before in
+pub returns-clause-is : goal.returns-clause-is
+returns-clause-is c =
     let s = c.split-p.result in
+    let p : Split c.args.b s.m s.h = split_is _ _ _ c.split-p.ensures c.requires.0 c.requires.1 in
     let w = c.widened-n.result in
     let wide = c.widened-n.ensures in
     let x = of_bits binary64 c.args.b in
@@ -34,3 +35,6 @@ returns c =
       m_is = mod-eq_of_lt (omega arith);
       e_is = refl;
     }
+
+pub returns-clause-width : goal.returns-clause-width
+returns-clause-width c = let n = returns-clause-is c in (radicand_lo _ _ _ n, radicand_hi _ _ _ n)

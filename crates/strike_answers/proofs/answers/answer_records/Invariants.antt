@@ -1,4 +1,4 @@
--- `answers::answer_records` meets its contract. The loop's invariant: so far it is the contract with i for the count. Assumes nothing.
+-- `answers::answer_records` meets its contract. The loop's invariant: so far it is the contract with the index for the count. Assumes nothing.
 use mathlib.Core.Path.{◌≡◌}
 use lib.ListN.{length}
 use Rattle.arithmetic.specs.Arith.{ieee}
@@ -9,8 +9,8 @@ use Rattle.strike_records.specs.Writes.{change}
 use Rattle.strike_answers.specs.Results.{Replies}
 use Rattle.strike_answers.proofs.answers.answer_records.Given as goal
 
-abbrev pub invariant-loop-i : goal.invariant-loop-i
-invariant-loop-i l =
-    Replies (between l.fn.set l.set) (change l.initial.out l.out) 0 l.written (λ s. replies ieee ORIGINS s l.input l.i)
+abbrev pub invariant-loop-bytes : goal.invariant-loop-bytes
+invariant-loop-bytes l =
+    Replies (between l.fn.set l.set) (change l.initial.out l.out) 0 l.written (λ s. replies ieee ORIGINS s l.input l.bytes-index)
     × (length l.out ≡ length l.initial.out)
     × SameBuffers l.fn.set l.set

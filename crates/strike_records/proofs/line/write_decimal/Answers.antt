@@ -1,34 +1,27 @@
--- `line::write_decimal` meets its contract, for one, two and three digits. Assumes nothing.
-use Prim.Native.Nat.{◌+◌, ◌/◌, ◌%◌}
+-- `line::write_decimal` meets its contract: the digits fill the columns that are lent for them. Assumes nothing.
+use mathlib.Core.Path.{◌≡◌, sym, ap, ◌∙◌}
+use Prim.Native.Nat.{◌+◌, ◌-◌}
 use native.Mathlib.Omega.{arith}
-use borrow.Author.Tests.{lt-ltb, le-ltb}
+use lib.ListN.{drop, set, length-drop, length-set}
+use lib.Seq.{length-take-le}
+use Rattle.decimal.specs.Decimal as D
+use Rattle.decimal.proofs.Columns.{aligned_whole}
+use Rattle.stores.proofs.Runs.{put_marked}
 use Rattle.strike_records.specs.Line.{SPACE, decimal}
-use Rattle.strike_records.proofs.Written.{writes_byte, writes_store}
+use Rattle.strike_records.proofs.Decimal.{same_decimal}
 use Rattle.strike_records.proofs.line.write_decimal.Goals as goal
 
-pub returns-then-n-lt10 : goal.returns-then-n-lt10
-unfolding decimal
-returns-then-n-lt10 c =
-    let a = c.args in
-    let space = writes_byte a.out.now a.at SPACE (omega arith) in
-    let one = writes_store space (48 + a.n) (a.at + 2) (omega arith) (omega arith) in
-    rw (lt-ltb _ _ c.if-n-lt10.true) one
-
-pub returns-then-n-lt100 : goal.returns-then-n-lt100
-unfolding decimal
-returns-then-n-lt100 c =
-    let a = c.args in
-    let space = writes_byte a.out.now a.at SPACE (omega arith) in
-    let tens = writes_store space (48 + a.n / 10) (a.at + 2) (omega arith) (omega arith) in
-    let ones = writes_store tens (48 + a.n % 10) (a.at + 3) (omega arith) (omega arith) in
-    rw (le-ltb _ _ c.if-n-lt10.false, lt-ltb _ _ c.if-n-lt100.true) ones
-
 pub returns : goal.returns
-unfolding decimal
 returns c =
     let a = c.args in
-    let space = writes_byte a.out.now a.at SPACE (omega arith) in
-    let hundreds = writes_store space (48 + a.n / 100) (a.at + 2) (omega arith) (omega arith) in
-    let tens = writes_store hundreds (48 + a.n / 10 % 10) (a.at + 3) (omega arith) (omega arith) in
-    let ones = writes_store tens (48 + a.n % 10) (a.at + 4) (omega arith) (omega arith) in
-    rw (le-ltb _ _ c.if-n-lt10.false, le-ltb _ _ c.if-n-lt100.false) ones
+    let same = ap D.decimal c.from.ensures ∙ sym (same_decimal a.n (omega arith)) in
+    let wide = length-take-le (c.digits.result) (drop (a.at + 1) (set a.out.now a.at SPACE))
+    (simp (length-drop, length-set) (omega (arith, c.digits.ensures.few))) in
+    let columns = a.at + 1 + c.digits.result - (a.at + 1) in
+    let exact : columns ≡ c.digits.result = omega arith in
+    let written : c.write_number.new.columns ≡ decimal a.n =
+    (rw (exact, wide, same) at c.write_number.ensures) ∙ aligned_whole _ (decimal a.n) (sym c.digits.ensures.count) in
+    record {
+      end_is = omega (arith, c.digits.ensures.count);
+      now_is = put_marked a.out.now a.at (a.at + 1 + c.digits.result) SPACE _ (decimal a.n) (omega arith) written (omega (arith, c.digits.ensures.count));
+    }

@@ -13,4 +13,5 @@ returns-then-slot-lt20 c = rw (le-ltb _ _ c.if-slot-lt10.false, face_triangle) (
 
 pub returns-else-slot-lt20 : goal.returns-else-slot-lt20
 unfolding face_triangle
-returns-else-slot-lt20 c = rw (le-ltb _ _ c.if-slot-lt10.false, face_triangle) (rw (le-ltb _ _ c.if-slot-lt20.false) c.get_reflected_face_triangle-else-slot-lt20.ensures)
+returns-else-slot-lt20 c = rw (le-ltb _ _ c.if-slot-lt10.false, face_triangle)
+    (rw (le-ltb _ _ c.if-slot-lt20.false) c.get_reflected_face_triangle-else-slot-lt20.ensures)

@@ -13,7 +13,11 @@ returns-then-self-ne-FACE_STORE c = simp (eq-eqb _ _ c.if-self-ne-FRAME.false, n
 
 pub returns-then-self-ne-SPHERE_STORE : goal.returns-then-self-ne-SPHERE_STORE
 unfolding check_set
-returns-then-self-ne-SPHERE_STORE c = simp (eq-eqb _ _ c.if-self-ne-FRAME.false, eq-eqb _ _ c.if-self-ne-FACE_STORE.false, ne_eqb _ _ c.if-self-ne-SPHERE_STORE.true)
+returns-then-self-ne-SPHERE_STORE c = simp (
+  eq-eqb _ _ c.if-self-ne-FRAME.false,
+  eq-eqb _ _ c.if-self-ne-FACE_STORE.false,
+  ne_eqb _ _ c.if-self-ne-SPHERE_STORE.true,
+)
 
 pub returns : goal.returns
 unfolding check_set
