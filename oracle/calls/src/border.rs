@@ -33,7 +33,7 @@ fn sides(g: &mut Generator, angle: &Angle) -> f64 {
 }
 
 // The sign of the angle at such a point.
-pub fn sign(g: &mut Generator, angle: &Angle) -> f64 {
+fn sign(g: &mut Generator, angle: &Angle) -> f64 {
     let (axis, sign) = angle.across();
     let p = angle.on_line(sides(g, angle));
     angle.at(shifted(p, axis, 1e-3 * sign)).signum()
@@ -94,10 +94,10 @@ fn is_met(angle: &Angle, border: Border) -> bool {
     [border.within, border.beyond].iter().all(is_met)
 }
 
-// Two neighbours with an angle of this sign, of which one is exact. Across the line a unit in the last place changes the angle by
-// some hundreds of its own units, so that many places are tried; where both must be exact the two are neighbours along the
-// line, which has to be parallel to an axis.
-pub fn find(g: &mut Generator, angle: &Angle, exact: Exact, sign: f64) -> Border {
+// Two neighbours with an angle of this sign, of which one is exact; none where a million tries find none. Across the line a unit in the
+// last place changes the angle by some hundreds of its own units, so that many places are tried; where both must be exact the two are
+// neighbours along the line, which has to be parallel to an axis.
+fn search(g: &mut Generator, angle: &Angle, exact: Exact, sign: f64) -> Option<Border> {
     let (across, _) = angle.across();
     let is_along = exact == Exact::Both;
     let axis = if is_along { 1 - across } else { across };
@@ -115,9 +115,21 @@ pub fn find(g: &mut Generator, angle: &Angle, exact: Exact, sign: f64) -> Border
             }
             let border = bisected(angle, border, axis);
             if is_exact(angle, border, exact, sign) && is_met(angle, border) {
-                return border;
+                return Some(border);
             }
         }
     }
-    panic!("no border of the sign {sign} in {:?}", angle.target);
+    None
+}
+
+// The same, where there are such neighbours.
+pub fn find(g: &mut Generator, angle: &Angle, exact: Exact, sign: f64) -> Border {
+    search(g, angle, exact, sign).unwrap_or_else(|| panic!("no border of the sign {sign} in {:?}", angle.target))
+}
+
+// Two neighbours with an angle of the sign that it has beside the line. At one place in some hundreds that is not the sign which it has
+// at ±64: then the other is tried.
+pub fn find_either(g: &mut Generator, angle: &Angle, exact: Exact) -> Border {
+    let sign = sign(g, angle);
+    search(g, angle, exact, sign).unwrap_or_else(|| find(g, angle, exact, -sign))
 }

@@ -208,8 +208,7 @@ fn frames(script: &mut Script, g: &mut Generator, defined: &Set) {
             put(script, slot, 1.0, &contents(defined, slot));
             let angle = Angle::on(&script.set, defined, &target);
             let exact = [Exact::Within, Exact::Beyond][index % 2];
-            let sign = border::sign(g, &angle);
-            let border = border::find(g, &angle, exact, sign);
+            let border = border::find_either(g, &angle, exact);
             at_border(script, border, target.id);
         }
     }
