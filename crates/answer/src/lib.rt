@@ -85,7 +85,6 @@ pub fn status<T: Drop>(outcome: Result<T, Refusal>) -> u8
 }
 
 // Neither infinite nor a NaN.
-#[tactic(auto, using(crate::proofs::Finite::finite_is))]
 pub fn is_finite(x: f64) -> bool
     ensures { result ≡ is_finite x }
 {

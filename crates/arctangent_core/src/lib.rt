@@ -66,7 +66,6 @@ pub fn core(t: f64) -> f64
 }
 
 // Both angles, in about the time of one.
-#[tactic(auto, unfolding(elementary::specs::Arctangent::core))]
 pub fn core_both(t: f64, u: f64) -> (f64, f64)
     ensures { (result.0 ≡ core ieee t) × (result.1 ≡ core ieee u) }
 {
@@ -83,7 +82,6 @@ pub struct AngleAndRoot {
 }
 
 // The angle, and beside its first root that of x: two roots at once take about the time of one.
-#[tactic(auto, unfolding(elementary::specs::Arctangent::core, elementary::specs::Arctangent::halved))]
 pub fn core_and_sqrt(t: f64, x: f64) -> AngleAndRoot
     ensures { (result.angle ≡ core ieee t) × (result.root ≡ sqrt x) }
 {

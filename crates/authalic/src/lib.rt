@@ -49,7 +49,6 @@ fn apply_coefficients(phi: Radians, c: [f64; 6]) -> Radians
 }
 
 // Geodetic to authalic.
-#[tactic(auto, unfolding(coordinates::specs::Authalic::authalic_forward))]
 pub fn forward(phi: Radians) -> Radians
     requires { outside phi.0 ≡ false }
     ensures { result ≡ authalic_forward ieee phi }

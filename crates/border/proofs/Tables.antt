@@ -55,10 +55,10 @@ module _ {X : Type 0} (call : List Float → Given X) (table : List Float) where
 module _ {X : Type 0} (call : List Float → Set → Outcome X) (table : List Float) (s : Set) where
   pub no_rows_on : (n : ℕ) → refused n ≡ rows_given table → with_table_on call table s ≡ record { answer = refused n; set = s }
   unfolding with_table_on
-  no_rows_on n e = rw (rows_off table n e, rows_20 table n e)
+  no_rows_on n e = rw (rows_off table n e, rows_20 table n e) refl
 
   pub with_rows_on : (rows : List Float) → answered rows ≡ rows_given table → with_table_on call table s ≡ call rows s
   unfolding with_table_on
-  with_rows_on rows e = rw (rows_fit table rows e, rows_are table rows e)
+  with_rows_on rows e = rw (rows_fit table rows e, rows_are table rows e) refl
 
 pub ruleset tables = (no_rows, with_rows, no_rows_on, with_rows_on)

@@ -7,7 +7,6 @@ use answer::Refusal;
 
 // The 84 numbers of a table, in their order; 20 for a table of another length. A C function matches on this: it returns a number, so that
 // `?` has nothing to return, and a function for each call that takes the rows as a Result is longer than the match.
-#[tactic(auto, unfolding(crate::specs::Tables::with_table))]
 pub fn rows(table: &[f64]) -> Result<[f64; 84], Refusal>
     ensures { given result ≡ rows_given table.now }
 {

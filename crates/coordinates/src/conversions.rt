@@ -65,7 +65,6 @@ pub fn finite_lon_lat(lonlat: LonLat) -> Result<LonLat, Refusal>
 }
 
 // 9, unless x and y are finite.
-#[tactic(auto, unfolding(crate::specs::Conversions::finite_face))]
 pub fn finite_face(face: Face) -> Result<Face, Refusal>
     ensures { given result ≡ finite_face face }
 {

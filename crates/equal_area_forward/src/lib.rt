@@ -14,7 +14,6 @@ use spherical_polygon::{spherical_triangle_area, spherical_triangle_area_and_sqr
 use vector::{cross, dot, length, scale, scale_and_add};
 
 // The constants of a canonical triangle.
-#[tactic(auto, unfolding(equal_area::specs::EqualArea::compute_constants))]
 pub fn compute_constants(triangle: SphericalTriangle) -> TriangleConstants
     ensures { result ≡ compute_constants ieee triangle }
 {
@@ -59,7 +58,6 @@ fn one_over(d: f64) -> f64
 }
 
 // From the sphere to the face. bxc is B × C of the spherical triangle, whose type is the Rust's and has none.
-#[tactic(auto, unfolding(equal_area::specs::EqualArea::forward))]
 pub fn forward(
     constants: TriangleConstants,
     v: Cartesian,

@@ -21,7 +21,7 @@ pub fn max_zero(x: f64) -> f64
 }
 
 // Whether the sign bit is set, also that of -0. A NaN has none.
-#[tactic(auto, using(crate::proofs::SignBit::negative_number, crate::proofs::SignBit::negative_nan))]
+#[tactic(auto, using(crate::proofs::SignBit::negative_nan))]
 pub fn negative(x: f64) -> bool
     ensures { result ≡ negative x }
 {

@@ -17,7 +17,6 @@ use remainder::remainder;
 use std::f64::consts::{FRAC_PI_2, PI};
 
 // Degrees as radians.
-#[tactic(auto, unfolding(coordinates::specs::CoordinateTransforms::deg_to_rad))]
 pub fn deg_to_rad(deg: Degrees) -> Radians
     ensures { result ≡ deg_to_rad ieee deg }
 {
@@ -52,7 +51,6 @@ pub fn from_lon_lat(lonlat: LonLat) -> Spherical
 }
 
 // A longitude in [-180, 180).
-#[tactic(auto, unfolding(coordinates::specs::CoordinateTransforms::normalize_longitude))]
 pub fn normalize_longitude(lon: Degrees) -> Degrees
     ensures { result ≡ normalize_longitude ieee lon }
 {

@@ -16,7 +16,6 @@ use sine_inside::sin_cos_inside;
 
 // A face point by its distance from the origin and its angle. Root and arc tangent do not wait for
 // each other, and are found together.
-#[tactic(auto, unfolding(coordinates::specs::CoordinateTransforms::to_polar))]
 pub fn to_polar(face: Face) -> Polar
     ensures { result ≡ to_polar ieee face }
 {
@@ -30,7 +29,6 @@ pub fn to_polar(face: Face) -> Polar
 }
 
 // The face point at a distance and an angle.
-#[tactic(auto, unfolding(coordinates::specs::CoordinateTransforms::to_face))]
 pub fn to_face(polar: Polar) -> Face
     requires { outside polar.gamma.0 ≡ false }
     ensures { result ≡ to_face ieee polar }
@@ -43,7 +41,6 @@ pub fn to_face(polar: Polar) -> Face
 }
 
 // A face point by its weights at the triangle's corners.
-#[tactic(auto, unfolding(coordinates::specs::CoordinateTransforms::face_to_barycentric))]
 pub fn face_to_barycentric(p: Face, triangle: FaceTriangle) -> Barycentric
     ensures { result ≡ face_to_barycentric ieee p triangle }
 {

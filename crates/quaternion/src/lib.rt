@@ -10,7 +10,6 @@ use coordinates::vec3::Vec3;
 use origin::utils::Quat;
 
 // The rotation back, for a unit quaternion.
-#[tactic(auto, unfolding(origin::specs::Quaternion::quat_conjugate))]
 pub fn quat_conjugate(q: Quat) -> Quat
     ensures { result ≡ quat_conjugate q }
 {
@@ -23,7 +22,6 @@ pub fn quat_conjugate(q: Quat) -> Quat
 }
 
 // q v q^-1, for a unit quaternion q.
-#[tactic(auto, unfolding(origin::specs::Quaternion::transform_quat))]
 pub fn transform_quat(v: Cartesian, q: Quat) -> Cartesian
     ensures { result ≡ transform_quat ieee v q }
 {

@@ -31,7 +31,6 @@ impl Seen {
     }
 
     // Takes one more position in, which uses an empty slot or none.
-    #[tactic(auto, unfolding(crate::specs::Parts::seen_next))]
     pub fn take_in(&mut self, place: Place, empty: bool)
         ensures { self.new ≡ seen_next self.old place empty }
     {

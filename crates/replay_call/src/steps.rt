@@ -19,7 +19,6 @@ pub struct Registers {
 }
 
 // The block, the inputs' highest bytes first.
-#[tactic(auto, unfolding(crate::specs::Made::block_of))]
 pub fn block(r: Registers) -> [u8; 32]
     ensures { result ≡ block_of r }
 {

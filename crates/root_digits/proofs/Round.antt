@@ -16,6 +16,22 @@ use Rattle.root_digits.specs.Digits.{Marked, Found}
 
 -- ---- before the first round
 
+pub none_found : (m : ℕ) → 2 ^ 52 ≤ m → m < 2 ^ 54 → Found (m * 2 ^ 52) (2 ^ 53) (2 * m) (2 ^ 52) 0
+none_found m lo hi =
+    record {
+      q = 0;
+      w = 2 ^ 53;
+      few = omega arith;
+      weight = refl;
+      c = 0;
+      c_is = refl;
+      t_is = refl;
+      y_is = omega arith;
+      r_is = refl;
+      above = omega arith;
+      last = λ e. omega arith;
+    }
+
 -- ---- one round, z being what y keeps
 
 one_square : (n q z r : ℕ) → 4 * (q * q) + (z + (4 * q + 2 * r)) * (2 * r) ≡ 4 * n → 4 * ((q + r) * (q + r)) + 2 * z * r ≡ 4 * n

@@ -127,7 +127,6 @@ pub fn sin_cos_inside(x: f64) -> SinCos
 }
 
 // Sine / cosine.
-#[tactic(auto, unfolding(elementary::specs::Sine::tan))]
 pub fn tan_inside(x: f64) -> f64
     requires { outside x ≡ false }
     ensures { result ≡ tan ieee x }

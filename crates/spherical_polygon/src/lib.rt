@@ -57,7 +57,6 @@ pub struct AreaAndRoot {
 }
 
 // The area, and the square root of x, which does not wait for it.
-#[tactic(auto, unfolding(crate::specs::SphericalPolygon::spherical_triangle_area))]
 pub fn spherical_triangle_area_and_sqrt(
     v1: Cartesian,
     v2: Cartesian,

@@ -1,53 +1,24 @@
--- Records answered one after the other: the set after them, how many bytes their lines have, and one record more. Assumes nothing.
+-- Records answered one after the other: the set after them, and one record more. Assumes nothing.
 use mathlib.Core.Path.{◌≡◌, refl, ap, ◌∙◌}
 use mathlib.Core.List.{List, [], ◌++◌}
 use Prim.Native.Nat.{ℕ, zero, suc, ◌+◌, ◌*◌, ◌/◌, ◌≤◌, ◌<◌}
 use native.Mathlib.Numerals.{add-one}
 use native.Mathlib.Omega.{arith}
 use lib.Ieee.{Float}
-use lib.ListN.{length, take, drop, get_or, length-append}
+use lib.ListN.{length, take, drop, get_or}
 use Rattle.std.proofs.lemmas.List.{get_or-take, drop-drop}
 use Rattle.std.specs.Simd.{first_chunks}
 use denote.Triple.Both.{Both}
-use Rattle.answer.specs.Given.{Given, answered, refused}
 use Rattle.arithmetic.specs.Arith.{Arith}
 use Rattle.set.specs.Set.{Set}
-use Rattle.dodecahedron.specs.Calls.{place_on, unplace_on}
-use Rattle.strike_records.specs.Line.{LINE, place_line, lon_lat_line}
-use Rattle.strike_records.specs.Record.{request_in}
-use Rattle.strike_records.specs.declared.record.Request.{Request}
-use Rattle.strike_records.specs.declared.record.Request.TheVariants.{Place, Unplace}
 use Rattle.strike_records.specs.Writes.{Bytes, change}
 use Rattle.strike_records.proofs.Written.{writes_as, writes_more}
-use Rattle.strike_records.proofs.Fits.{place_fits, lon_lat_fits, refusal_fits}
-use Rattle.strike_answers.specs.Reply.{line_of, Reply, reply_to, reply, record_at, replies}
+use Rattle.strike_records.specs.Reply.{Reply, reply, record_at, replies}
 use Rattle.strike_answers.specs.Results.{Replies}
-
--- ---- no line is longer than the room for one
-line_fits : {X : Type 0} (f : X → List ℕ) → ((x : X) → length (f x) ≤ LINE) → (g : Given X) → length (line_of f g) ≤ LINE
-line_fits f h (answered x) = h x
-line_fits f h (refused n) = refusal_fits n
-
-module _ (A : Arith) (table : List Float) (s : Set) where
-  reply_to_fits : (r : Given Request) → length (reply_to A table s r).lines ≤ LINE
-  reply_to_fits (refused n) = refusal_fits n
-  reply_to_fits (answered (Place p)) = line_fits place_line place_fits (place_on A table s p).answer
-  reply_to_fits (answered (Unplace f o)) = line_fits lon_lat_line lon_lat_fits (unplace_on A table s f o).answer
-
-  reply_fits : (r : List ℕ) → length (reply A table s r).lines ≤ LINE
-  unfolding reply
-  reply_fits r = reply_to_fits (request_in A r)
 
 module _ (A : Arith) (table : List Float) (s : Set) (bytes : List ℕ) where
   abbrev first : ℕ → Reply
   first = replies A table s bytes
-
-  pub lines_fit : (k : ℕ) → length (first k).lines ≤ k * LINE
-  unfolding replies
-  lines_fit zero = omega arith
-  lines_fit (suc k) =
-      let line = (reply A table (first k).set (record_at bytes k)).lines in
-      omega (arith, length-append (first k).lines line, lines_fit k, reply_fits A table (first k).set (record_at bytes k))
 
   -- one record more, on the set that the first k have left
   one_more : (k : ℕ) (t : Set) (r : List ℕ) → t ≡ (first k).set → r ≡ record_at bytes k

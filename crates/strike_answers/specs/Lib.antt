@@ -1,3 +1,2 @@
--- Document 01, "The strike program": its records on a set. Definitions only.
-pub mod Reply
+-- Document 01, "The strike program": what its records on a set leave. Definitions only.
 pub mod Results

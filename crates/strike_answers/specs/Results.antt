@@ -4,7 +4,7 @@ use denote.Triple.Both.{Both}
 use Rattle.set.specs.Set.{Set}
 use Rattle.set.specs.Outcome.{Becomes}
 use Rattle.strike_records.specs.Writes.{Bytes, Writes}
-use Rattle.strike_answers.specs.Reply.{Reply}
+use Rattle.strike_records.specs.Reply.{Reply}
 
 -- records are answered on a set: their lines stand from a place on, and the set is left as the last of them leaves it
 pub record Replies (set : Both Set Set) (out : Bytes) (at end : ℕ) (f : Set → Reply) : Type 0 where

@@ -7,7 +7,7 @@ ghost use Rattle.origin.specs.Origins.{ORIGINS};
 ghost use Rattle.set.specs.Lent.{SameBuffers, between};
 ghost use Rattle.strike_records.specs.Line.{LINE};
 ghost use Rattle.strike_records.specs.Writes.{lent_bytes};
-ghost use Rattle.strike_answers.specs.Reply.{reply_to, reply, replies};
+ghost use Rattle.strike_records.specs.Reply.{reply_to, reply, replies};
 ghost use Rattle.strike_answers.specs.Results.{Replies};
 
 use coordinates::coords::Face;

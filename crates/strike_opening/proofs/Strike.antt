@@ -17,7 +17,7 @@ use Rattle.histories.specs.EveryList.{opened, left}
 use Rattle.strike_records.specs.Record.{request_in}
 use Rattle.strike_records.specs.declared.record.Request.{Request}
 use Rattle.strike_records.specs.declared.record.Request.TheVariants.{Place, Unplace}
-use Rattle.strike_answers.specs.Reply.{line_of, reply_to, reply}
+use Rattle.strike_records.specs.Reply.{line_of, reply_to, reply}
 use Rattle.strike_session.specs.Session.{session, program}
 use Rattle.opening.specs.Opening.{Without8}
 use Rattle.strike_opening.specs.Strike.{set_after, Never7Or8}

@@ -5,7 +5,7 @@ use Rattle.arithmetic.specs.Arith.{ieee}
 use Rattle.origin.specs.Origins.{ORIGINS}
 use Rattle.set.specs.Set.{Set}
 use Rattle.histories.specs.EveryList.{opened}
-use Rattle.strike_answers.specs.Reply.{reply}
+use Rattle.strike_records.specs.Reply.{reply}
 use Rattle.strike_session.specs.Session.{session, program}
 use Rattle.opening.specs.Opening.{RightLengths, Without8}
 

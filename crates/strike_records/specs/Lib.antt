@@ -2,3 +2,4 @@
 pub mod Line
 pub mod Writes
 pub mod Record
+pub mod Reply

@@ -16,9 +16,9 @@ use Rattle.set.specs.Set.{Set}
 use Rattle.set.specs.Open.{open_on}
 use Rattle.strike_records.specs.Line.{LINE, refusal_line}
 use Rattle.strike_records.specs.Record.{headed}
-use Rattle.strike_answers.specs.Reply.{line_of, reply}
+use Rattle.strike_records.specs.Reply.{line_of, reply}
 use Rattle.strike_session.specs.Session.{MAX_RECORDS, records, session, program}
-use Rattle.strike_answers.specs.Reply.{record_at, replies}
+use Rattle.strike_records.specs.Reply.{record_at, replies}
 use Rattle.strike_session.specs.Pieces.{answerable, Fed, records_fed, fed, end_line, begin_stage, begin_line, Piece, joined, Roomy, piecewise, program_piecewise}
 use Rattle.strike_session.specs.declared.session.Stage.{Stage}
 use Rattle.strike_session.specs.declared.session.Stage.TheVariants.{Header, Records, Stopped}

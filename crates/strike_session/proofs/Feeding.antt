@@ -14,8 +14,7 @@ use Rattle.arithmetic.specs.Arith.{Arith}
 use Rattle.set.specs.Set.{Set}
 use Rattle.strike_records.specs.Line.{LINE}
 use Rattle.strike_records.specs.Record.{headed}
-use Rattle.strike_records.proofs.Fits.{refusal_fits}
-use Rattle.strike_answers.proofs.Replies.{lines_fit}
+use Rattle.strike_records.proofs.Fits.{refusal_fits, lines_fit}
 use Rattle.strike_session.specs.Session.{MAX_RECORDS}
 use Rattle.strike_session.specs.Pieces.{answerable, Fed, still, wrong_header, records_fed, fed, end_line}
 use Rattle.strike_session.specs.declared.session.Stage.{Stage}

@@ -7,7 +7,7 @@ use Rattle.set.specs.Set.{Set}
 use Rattle.set.specs.Open.{open_on}
 use Rattle.strike_records.specs.Line.{LINE, refusal_line}
 use Rattle.strike_records.specs.Record.{headed}
-use Rattle.strike_answers.specs.Reply.{replies}
+use Rattle.strike_records.specs.Reply.{replies}
 use Rattle.strike_session.specs.Session.{MAX_RECORDS}
 use Rattle.strike_session.specs.declared.session.Stage.{Stage}
 use Rattle.strike_session.specs.declared.session.Stage.TheVariants.{Header, Records, Stopped}

@@ -5,7 +5,7 @@ use Rattle.set.specs.Set.{Set}
 use Rattle.set.specs.Open.{open_on}
 use Rattle.strike_records.specs.Line.{refusal_line}
 use Rattle.strike_records.specs.Record.{headed}
-use Rattle.strike_answers.specs.Reply.{line_of, reply}
+use Rattle.strike_records.specs.Reply.{line_of, reply}
 
 -- "at most 4,294,967,295 records"
 abbrev pub MAX_RECORDS : ℕ

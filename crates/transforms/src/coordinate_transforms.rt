@@ -14,7 +14,6 @@ use square_root::root::sqrt;
 
 // A point of space by its two angles, theta from the x axis and phi from the z axis. The two arc
 // tangents are found together.
-#[tactic(auto, unfolding(coordinates::specs::CoordinateTransforms::to_spherical))]
 pub fn to_spherical(cart: Cartesian) -> Spherical
     ensures { result ≡ to_spherical ieee cart }
 {

@@ -9,7 +9,6 @@ use coordinates::polar::Polar;
 use coordinates::spherical::Spherical;
 
 // A direction to the plane's polar coordinates.
-#[tactic(auto, unfolding(coordinates::specs::Gnomonic::gnomonic_forward))]
 pub fn forward(spherical: Spherical) -> Polar
     requires { outside spherical.phi.0 ≡ false }
     ensures { result ≡ gnomonic_forward ieee spherical }

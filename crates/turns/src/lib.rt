@@ -5,7 +5,6 @@ ghost use Rattle.std.specs.Prelude.{◌≡◌};
 ghost use Rattle.turns.specs.Turns.{still_short};
 
 // 1 for a channel with less than its wish, else 0.
-#[tactic(auto, unfolding(crate::specs::Turns::still_short))]
 pub fn still_short(wish: u16, grant: u16) -> u16
     ensures { result ≡ still_short wish grant }
 {

@@ -39,7 +39,6 @@ pub fn subtract(a: Cartesian, b: Cartesian) -> Cartesian
 }
 
 // The distance of two points.
-#[tactic(auto, unfolding(coordinates::specs::Vector::vec3_distance))]
 pub fn vec3_distance(a: Cartesian, b: Cartesian) -> f64
     ensures { result ≡ vec3_distance ieee a b }
 {

@@ -3,7 +3,7 @@ use mathlib.Core.Path.{◌≡◌}
 use Prim.Native.Nat.{◌-◌, ◌*◌, ◌%◌, ◌^◌, ◌<◌, ◌≤◌}
 use native.Mathlib.Nat.{mod-eq_of_lt}
 use native.Mathlib.Omega.{arith}
-use Rattle.square_root.proofs.Lead.{Lead, shift, lead}
+use Rattle.float_parts.proofs.Lead.{Lead, shift, lead}
 use Rattle.arithmetic.proofs.Powers.{apart}
 use Rattle.remainder.proofs.Places.{fewer, low_joined, high_joined}
 use Rattle.remainder.proofs.joined.Goals as goal

@@ -4,7 +4,8 @@ use lib.Ieee.{binary64, rem}
 use lib.Ieee.Fits.{rem-fits}
 use Rattle.float_parts.specs.Signs.{abs, negative}
 use Rattle.float_parts.proofs.SignBit.{abs_fits, abs_positive}
-use Rattle.remainder.proofs.Values.{own_remainder, signed, unit_times}
+use Rattle.float_parts.proofs.Smaller.{own_remainder}
+use Rattle.remainder.proofs.Values.{signed, unit_times}
 use Rattle.remainder.proofs.remainder.Goals as goal
 
 pub returns-then-a-b : goal.returns-then-a-b

@@ -1,4 +1,5 @@
 -- `take_cross` meets its contract. Assumes nothing.
+use mathlib.Core.Path.{refl, sym, ◌∙◌}
 use Rattle.triangles.specs.Triangles.{cross_taken}
 use Rattle.stores.proofs.Runs.{gap}
 use Rattle.sphere_triangles.proofs.take_cross.Goals as goal
@@ -9,4 +10,4 @@ returns-then-is_filled c = simp (c.read_vector.ensures, ← c.is_filled.ensures,
 
 pub returns-else-is_filled : goal.returns-else-is_filled
 unfolding cross_taken
-returns-else-is_filled c = simp (c.cross.ensures, ← c.is_filled.ensures, c.if-is_filled.false)
+returns-else-is_filled c = c.cross.ensures ∙ sym (rw (sym c.is_filled.ensures ∙ c.if-is_filled.false) refl)

@@ -1,5 +1,7 @@
 -- `index::should_reflect` meets its contract. Assumes nothing.
+use mathlib.Core.Path.{refl}
 use lib.Ieee.{of_bits}
+use Rattle.arithmetic.specs.Arith.{ieee}
 use Rattle.elementary.specs.Sine.{cos}
 use Rattle.tiling.specs.Index.{should_reflect}
 use Rattle.tiling.proofs.Sizes.{normalized_inside}
@@ -11,4 +13,4 @@ cos_inside-requires c = rw c.normalize_gamma-beta.ensures (normalized_inside c.a
 
 pub returns : goal.returns
 unfolding should_reflect cos of_bits
-returns c = rw (c.cos_inside.ensures, c.normalize_gamma-beta.ensures)
+returns c = rw (c.cos_inside.ensures, c.normalize_gamma-beta.ensures) (refl {a = should_reflect ieee c.args.polar})

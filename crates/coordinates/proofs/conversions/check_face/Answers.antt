@@ -10,4 +10,4 @@ returns-in_err-check_number c = search rules
 
 pub returns : goal.returns
 unfolding check_face of_bits
-returns c = search rules
+returns c = rw (← c.in_ok-check_number.ensures) c.check_number-2.ensures

@@ -6,7 +6,7 @@ use Rattle.arithmetic.specs.Arith.{ieee}
 use Rattle.origin.specs.Origins.{ORIGINS}
 use Rattle.set.specs.Lent.{held}
 use Rattle.strike_records.specs.Line.{refusal_line}
-use Rattle.strike_answers.specs.Reply.{Reply, reply_to, reply}
+use Rattle.strike_records.specs.Reply.{Reply, reply_to, reply}
 use Rattle.strike_records.proofs.Written.{writes_as}
 use Rattle.strike_answers.proofs.Replies.{replies_as}
 use Rattle.strike_answers.proofs.answers.answer_record.Goals as goal

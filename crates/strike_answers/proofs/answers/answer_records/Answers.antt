@@ -5,8 +5,9 @@ use lib.Seq.{length-take-le}
 use Rattle.arithmetic.specs.Arith.{ieee}
 use Rattle.origin.specs.Origins.{ORIGINS}
 use Rattle.set.specs.Lent.{held}
-use Rattle.strike_answers.specs.Reply.{replies}
-use Rattle.strike_answers.proofs.Replies.{lines_fit, replies_more, part_is}
+use Rattle.strike_records.specs.Reply.{replies}
+use Rattle.strike_records.proofs.Fits.{lines_fit}
+use Rattle.strike_answers.proofs.Replies.{replies_more, part_is}
 use Rattle.strike_records.proofs.Written.{writes_none}
 use Rattle.strike_answers.proofs.answers.answer_records.Goals as goal
 

@@ -4,7 +4,7 @@ use lib.ListN.{length}
 use Rattle.arithmetic.specs.Arith.{ieee}
 use Rattle.origin.specs.Origins.{ORIGINS}
 use Rattle.set.specs.Lent.{SameBuffers, between}
-use Rattle.strike_answers.specs.Reply.{replies}
+use Rattle.strike_records.specs.Reply.{replies}
 use Rattle.strike_records.specs.Writes.{change}
 use Rattle.strike_answers.specs.Results.{Replies}
 use Rattle.strike_answers.proofs.answers.answer_records.Given as goal

@@ -14,3 +14,13 @@ returns-in-Ok c =
       line = room_as _ (ap begin_line (sym opened)) (room_none c.args.out.now);
       left = call.left;
     }
+
+pub returns-in-Err : goal.returns-in-Err
+returns-in-Err c =
+    let call = c.open.ensures in
+    let refused = sym call.answer ∙ ap given c.in-Err.is in
+    record {
+      stage_is = ap begin_stage (sym refused);
+      line = room_as _ (ap begin_line (sym refused)) c.write_fitting.ensures;
+      left = call.left;
+    }

@@ -1,6 +1,8 @@
 -- `session::finish` meets its contract, stage by stage. Assumes nothing.
-use mathlib.Core.Path.{sym, ap}
+use Rattle.std.proofs.Common.{rules}
+use mathlib.Core.Path.{◌≡◌, sym, ap}
 use native.Mathlib.Omega.{arith}
+use Rattle.strike_records.specs.Line.{refusal_line}
 use Rattle.strike_session.specs.Pieces.{end_line}
 use Rattle.strike_session.specs.declared.session.Stage.{Stage}
 use Rattle.strike_session.proofs.Feeding.{last_record, between_records}
@@ -27,3 +29,10 @@ returns-in_default-3 c =
     let a = c.args in
     let over = ap (λ (t : Stage). end_line t a.kept) (sym c.in_default.is) in
     room_as _ over (room_none a.out.now)
+
+-- within a record
+pub returns-in-Records : goal.returns-in-Records
+returns-in-Records c =
+    let a = c.args in
+    let cut : end_line a.stage a.kept ≡ refusal_line 13 = search rules in
+    room_as _ (sym cut) c.write_fitting-in-Records.ensures

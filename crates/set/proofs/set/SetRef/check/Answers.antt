@@ -1,11 +1,12 @@
 -- `SetRef::check` meets its contract. Assumes nothing.
+use mathlib.Core.Path.{refl}
 use borrow.Author.Tests.{eq-eqb, ne_eqb}
 use Rattle.set.specs.Set.{check_set}
 use Rattle.set.proofs.set.SetRef.check.Goals as goal
 
 pub returns-then-self-ne-FRAME : goal.returns-then-self-ne-FRAME
 unfolding check_set
-returns-then-self-ne-FRAME c = simp (ne_eqb _ _ c.if-self-ne-FRAME.true)
+returns-then-self-ne-FRAME c = simp (ne_eqb _ _ c.if-self-ne-FRAME.true) refl
 
 pub returns-then-self-ne-FACE_STORE : goal.returns-then-self-ne-FACE_STORE
 unfolding check_set

@@ -1,0 +1,11 @@
+-- `max_zero` meets its contract: x itself where it is above 0. Assumes nothing.
+use mathlib.Core.Path.{sym, ap}
+use mathlib.Core.Bool.{Bool, cond}
+use lib.Ieee.{of_bits}
+use Rattle.arithmetic.specs.Numbers.{0·0}
+use Rattle.float_parts.specs.Signs.{max_zero}
+use Rattle.float_parts.proofs.signs.max_zero.Goals as goal
+
+pub returns-then-x : goal.returns-then-x
+unfolding max_zero of_bits
+returns-then-x c = sym (ap (λ (above : Bool). cond above c.args.x 0·0) c.if-x.true)

@@ -1,0 +1,2 @@
+-- Laws on outcomes.
+pub mod Told
