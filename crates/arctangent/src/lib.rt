@@ -1,5 +1,7 @@
-// Atan and atan2 (document 01, "Elementary steps").
+// Atan and atan2, and core, of which they are made (document 01, "Elementary steps").
 #![tactic(auto)]
+
+pub mod core_step;
 
 ghost use Rattle.std.specs.Prelude.{◌≡◌};
 ghost use Rattle.arithmetic.specs.Arith.{ieee};
@@ -7,7 +9,7 @@ ghost use Rattle.arithmetic.specs.Sqrt.{sqrt};
 ghost use Rattle.float_parts.specs.Signs.{abs, with_sign};
 ghost use Rattle.elementary.specs.Arctangent.{core, atan_size, atan, tangent, atan2_base, atan2};
 
-use arctangent_core::{AngleAndRoot, core, core_and_sqrt, core_both};
+use crate::core_step::{AngleAndRoot, core, core_and_sqrt, core_both};
 use float_parts::signs::{abs, negative};
 use std::f64::consts::{FRAC_PI_2, PI};
 

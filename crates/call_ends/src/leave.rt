@@ -8,7 +8,7 @@ ghost use Rattle.dodecahedron.specs.Work.{outcome_if_there};
 use answer::Refusal;
 use dodecahedron::work::Work;
 use set::set::Set;
-use used_slots::write_used;
+use stores::used_slots::write_used;
 
 // The answer of what was worked out, its slots written.
 pub fn leave<T: Drop>(set: &mut Set<'_>, work: Result<Work<T>, Refusal>) -> Result<T, Refusal>

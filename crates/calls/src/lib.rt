@@ -25,12 +25,12 @@ use coordinates::lonlat::LonLat;
 use coordinates::spherical::Spherical;
 use dodecahedron::place::Place;
 use dodecahedron::work::Work;
-use geographic::{from_lon_lat, to_lon_lat};
 use nearest::origins::Origins;
 use projection_core::{forward_core, inverse_core};
 use set::checks::{check_origin, check_with};
 use set::on_origin::{OnOrigin, SoundOrigin};
 use set::set::{Set, SetRef};
+use transforms::geographic::{from_lon_lat, to_lon_lat};
 
 // 1, 2, 3, 21, 22, 4.
 fn check_call<O: Origins>(origins: &O, set: SetRef<'_>, origin: u8) -> Result<(), Refusal>

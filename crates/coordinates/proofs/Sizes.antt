@@ -171,14 +171,14 @@ module _ (p : LonLat) (e : check_lon_lat p ≡ passed) where
       let held = mul-fits binary64 p.latitude.0 (div binary64 PI 180·0) in
       from_pole (authalic_small (deg_to_rad ieee p.latitude) held (latitude_small (passed_latitude p e)))
 
-  -- what sine takes in authalic::forward
+  -- what sine takes in transforms::authalic::forward
   pub latitude_inside : outside (deg_to_rad ieee p.latitude).0 ≡ false
   unfolding deg_to_rad le
   latitude_inside = inside_by (mul binary64 p.latitude.0 (div binary64 PI 180·0)) (bounded (latitude_small (passed_latitude p e))) tt tt tt
 
 -- ---- what sine takes elsewhere
 
--- in authalic::inverse
+-- in transforms::authalic::inverse
 pub colatitude_inside : (x : Float) → Bounded x 24·0 → outside (sub binary64 FRAC_PI_2 x) ≡ false
 unfolding FRAC_PI_2 of_bits add le
 colatitude_inside x h = inside_by (sub binary64 FRAC_PI_2 x) (sub_bounded binary64 (bounded (own FRAC_PI_2 tt tt)) h tt) tt tt tt

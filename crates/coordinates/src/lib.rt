@@ -1,5 +1,5 @@
 // Coordinate systems, with the Rust's module names, the checks of positions and face points, and the definitions of the
-// changes between them, which are functions of crates vector, authalic, geographic, plane and transforms.
+// changes between them, which are functions of crate transforms.
 #![tactic(auto)]
 
 pub mod base;

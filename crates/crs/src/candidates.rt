@@ -8,9 +8,9 @@ ghost use Rattle.crs.specs.Candidates.{around, face_center, vertex, midpoint, ca
 use coordinates::base::Radians;
 use coordinates::coords::Cartesian;
 use coordinates::spherical::Spherical;
+use origin::quaternion::transform_quat;
 use origin::table::{SoundTable, origin_in};
 use origin::utils::Origin;
-use quaternion::transform_quat;
 use std::f64::consts::PI;
 use transforms::coordinate_transforms::to_cartesian;
 
@@ -20,7 +20,7 @@ const PHI_VERTEX: f64 = 0.6523581397843683;
 
 const PHI_MIDPOINT: f64 = 0.5535743588970453;
 
-// m tenths of a turn from the origin's angle, and phi from its axis. Why an angle that is not outside is of no type, sine_inside says.
+// m tenths of a turn from the origin's angle, and phi from its axis. Why an angle that is not outside is of no type, `sine::inside` says.
 fn around(origin: Origin, m: u8, phi: f64) -> Cartesian
     requires { (m < 10) × (beyond 8·0 origin.angle.0 ≡ false) × (outside phi ≡ false) }
     ensures { result ≡ around ieee origin m phi }

@@ -9,7 +9,7 @@ use answer::Refusal;
 use coordinates::coords::Cartesian;
 use coordinates::vec3::Vec3;
 use origin::table::SoundTable;
-use vector::{dot, subtract};
+use transforms::vector::{dot, subtract};
 
 // Strictly nearer than 1e-5: the square of the distance is below 1e-10, so that no root is taken.
 fn near(point: Cartesian, vertex: Cartesian) -> bool
@@ -42,7 +42,7 @@ fn add(rows: &mut [f64], used: usize, point: Cartesian) -> usize
     ensures behind { drop result rows.new ≡ drop result rows.old }
     ensures used { (used ≤ result) × (result ≤ used + 3) }
 {
-    let row = vector::normalize(point);
+    let row = transforms::vector::normalize(point);
     if get_vertex(&rows[..used], row).is_ok() {
         return used;
     }

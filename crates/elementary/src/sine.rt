@@ -1,4 +1,4 @@
-// What sine and cosine together answer (crates sine and sine_inside).
+// What sine and cosine together answer (crate sine).
 
 // Sine and cosine of one angle, by name: a pair would not say which is which.
 #[derive(Clone, Copy)]

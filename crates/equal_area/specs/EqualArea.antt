@@ -16,7 +16,7 @@ use Rattle.coordinates.specs.declared.coords.Cartesian.{Cartesian}
 use Rattle.coordinates.specs.declared.coords.Barycentric.{Barycentric}
 use Rattle.coordinates.specs.declared.coords.FaceTriangle.{FaceTriangle}
 use Rattle.coordinates.specs.declared.coords.SphericalTriangle.{SphericalTriangle}
-use Rattle.spherical_polygon.specs.SphericalPolygon.{spherical_triangle_area}
+use Rattle.equal_area.specs.SphericalPolygon.{spherical_triangle_area}
 use Rattle.equal_area.specs.declared.equal_area.TriangleConstants.{TriangleConstants}
 
 -- 1e-14

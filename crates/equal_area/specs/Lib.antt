@@ -1,2 +1,3 @@
--- projections/equal_area.rs. Definitions only.
+-- geometry/spherical_polygon.rs and projections/equal_area.rs. Definitions only.
+pub mod SphericalPolygon
 pub mod EqualArea

@@ -1,7 +1,7 @@
 // Equal-area projection of Snyder, with closed-form equations: a point of a spherical triangle ABC
 // goes to the face triangle by way of P, where the great circles through A and the point, and through
-// B and C, meet. Here are its types, and the way from the face to the sphere; the other way is crate
-// `equal_area_forward`.
+// B and C, meet. Here are its types, and the way from the face to the sphere; the other way is
+// `forward`.
 ghost use Rattle.std.specs.Prelude.{◌≡◌};
 ghost use Rattle.answer.specs.Answer.{given};
 ghost use Rattle.arithmetic.specs.Arith.{ieee};
@@ -11,13 +11,13 @@ use answer::Refusal;
 use coordinates::coords::{Barycentric, Cartesian, Face, FaceTriangle, SphericalTriangle};
 use elementary::sine::SinCos;
 use float_parts::signs::{abs, max_zero};
-use plane::face_to_barycentric;
 use sine::sin_cos;
 use square_root::root::sqrt;
-use vector::{dot, normalize, scale, scale_and_add};
+use transforms::plane::face_to_barycentric;
+use transforms::vector::{dot, normalize, scale, scale_and_add};
 
 // What the maps take from the one canonical triangle: all face triangles are congruent. The functions that take it are no methods of it:
-// the way from the sphere to the face stands in crate `equal_area_forward`, where the struct can have none, and both ways are called alike.
+// both ways are called alike, by their module.
 #[derive(Clone, Copy)]
 pub struct TriangleConstants {
     pub a_dot_b: f64,

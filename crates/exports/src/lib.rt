@@ -6,7 +6,11 @@
 // numbers is lent as a reference to an array of two, in C a pointer: it has no length to be wrong.
 // The caller sees to it that a pointer is not null, that so many numbers stand there, and that no
 // two that are lent overlap. A set is its three buffers one by one, as C has them.
-#![tactic(auto)]
+#![tactic(auto, using(border::proofs::Tables::tables))]
+
+pub mod files;
+pub mod slots;
+pub mod tables;
 
 ghost use Rattle.std.specs.Prelude.{◌≡◌};
 ghost use Rattle.arithmetic.specs.Arith.{ieee};

@@ -1,5 +1,5 @@
-// A list of positions placed in one call, as C functions. Crate exports has the calls on a set; these go into the same
-// library, and what is said there of pointers and lengths holds here too. A position and a result are the structs that
+// A list of positions placed in one call, as C functions. What crate exports says of pointers and lengths holds here too;
+// all go into one library. A position and a result are the structs that
 // bindings/a5.h has as a5_position and a5_result. C has a function for each table, and the three buffers one by one: its
 // interface is fixed.
 #![tactic(auto, using(crate::proofs::TableLength::c_functions))]

@@ -1,4 +1,4 @@
-// A list of positions with a table, as a C function. A table is a pointer and a length in C, as in crate exports_tables.
+// A list of positions with a table, as a C function. A table is a pointer and a length in C, as in crate exports.
 ghost use Rattle.std.specs.Prelude.{◌≡◌};
 ghost use Rattle.arithmetic.specs.Arith.{ieee};
 ghost use Rattle.set.specs.Outcome.{lent};

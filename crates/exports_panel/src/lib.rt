@@ -1,6 +1,6 @@
-// A step of the caption panel as C functions: with the built-in table, and with a table, which is a pointer and a length in C, as in
-// crate exports_tables. Crate exports has the calls on a set; these go into the same library, and what is said there of pointers
-// and lengths holds here too. C has a function for each table, and the three buffers one by one: its interface is fixed.
+// A step of the caption panel as C functions: with the built-in table, and with a table, which is a pointer and a length in C. What
+// crate exports says of pointers, lengths and tables holds here too; all go into one library. C has a function for each table, and the
+// three buffers one by one: its interface is fixed.
 #![tactic(auto, using(crate::proofs::Panel::tables))]
 
 ghost use Rattle.arithmetic.specs.Arith.{ieee};

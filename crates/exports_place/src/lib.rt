@@ -1,5 +1,5 @@
-// Place and unplace on a set as C functions, with the built-in table and with a table that is lent. What crates exports and
-// exports_tables say of pointers, lengths, answers and tables holds here too. C has a function for each table, and the three
+// Place and unplace on a set as C functions, with the built-in table and with a table that is lent. What crate exports says
+// of pointers, lengths, answers and tables holds here too. C has a function for each table, and the three
 // buffers one by one: its interface is fixed.
 #![tactic(auto, using(border::proofs::Tables::tables))]
 

@@ -1,7 +1,7 @@
-// A region on one face as C functions: with the built-in table, and with a table, which is a pointer and a length in C, as in
-// crate exports_tables. Crate exports has the calls on a set; these go into the same library, and what is said there of pointers
-// and lengths holds here too. A position, a point and a box are the structs that bindings/a5.h has as a5_position, a5_point and
-// a5_box. C has a function for each table, and the three buffers one by one: its interface is fixed.
+// A region on one face as C functions: with the built-in table, and with a table, which is a pointer and a length in C. What crate
+// exports says of pointers, lengths and tables holds here too; all go into one library. A position, a point and a box are the structs
+// that bindings/a5.h has as a5_position, a5_point and a5_box. C has a function for each table, and the three buffers one by one: its
+// interface is fixed.
 #![tactic(auto, using(region_border::proofs::Told::c_functions))]
 
 ghost use Rattle.std.specs.Prelude.{◌≡◌};

@@ -16,7 +16,7 @@ pub mod origins;
 
 use coordinates::spherical::Spherical;
 use origin::table::{SoundTable, origin_in};
-use sine_inside::sin_inside;
+use sine::inside::sin_inside;
 
 // Modified haversine formula of the Rust: it grows with the angle between the two. The sine of the
 // point's phi is handed over, since several axes share it.

@@ -17,10 +17,10 @@ use coordinates::spherical::Spherical;
 use dodecahedron::work::Work;
 use equal_area::equal_area::TriangleConstants;
 use origin::utils::Origin;
-use plane::to_polar;
-use point_triangles::take;
 use set::on_origin::OnOrigin;
 use transforms::coordinate_transforms::{to_cartesian, to_spherical};
+use transforms::plane::to_polar;
+use triangles::point_triangles::take;
 use triangles::triangles::read_vector;
 
 // Row k of a frame.
@@ -39,7 +39,7 @@ fn frame_constants(frame: &[f64]) -> TriangleConstants
     let a = row(frame, 0);
     let b = row(frame, 32);
     let c = row(frame, 12);
-    equal_area_forward::compute_constants(SphericalTriangle { a, b, c })
+    equal_area::forward::compute_constants(SphericalTriangle { a, b, c })
 }
 
 // A position in polar coordinates about an origin's axis, with the origin's own turn taken off.
@@ -48,7 +48,7 @@ fn polar_about(origin: Origin, v: Cartesian) -> Polar
 {
     // back to the origin's own space
     let quat = origin.quat;
-    let out = quaternion::transform_quat(v, quaternion::quat_conjugate(quat));
+    let out = origin::quaternion::transform_quat(v, origin::quaternion::quat_conjugate(quat));
     // unprojected gnomonically to polar coordinates there
     let polar = transforms::gnomonic::forward(to_spherical(out));
     // turned about the face's axis, so that the origin's own angle is off
@@ -68,7 +68,7 @@ pub fn forward_core(on: OnOrigin<'_>, spherical: Spherical) -> Result<Work<Face>
     let polar = polar_about(on.origin.origin, unprojected);
     let taken = take(on.set, on.origin, on.id, polar)?;
     let used = taken.used;
-    let answer = equal_area_forward::forward(
+    let answer = equal_area::forward::forward(
         frame_constants(on.set.frame),
         unprojected,
         used.triangle,

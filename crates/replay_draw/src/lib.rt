@@ -1,4 +1,4 @@
-// The calls of long lists, drawn from a fixed seed, a set and what is due after them, for both programs that run such lists.
+// The calls of long lists, drawn from a fixed seed, a set and what is due after them, for the program that runs such lists.
 #![tactic(auto)]
 
 pub mod buffers;

@@ -4,15 +4,15 @@
 // malformed.
 #![tactic(auto)]
 
+use arctangent::core_step::core;
 use arctangent::{atan, atan2};
-use arctangent_core::core;
 use elementary::whole::{floor, round};
 use float_parts::signs::{abs, max_zero};
 use remainder::remainder;
-use replay::outcome::{one, told, two};
+use replay::outcome::{one, told, two, whole};
 use replay_tally::table::{Entry, run};
 use sine::{cos, sin, sin_cos, tan};
-use square_root::root::sqrt;
+use square_root::root::{sqrt, sqrt_rounds};
 use std::io;
 
 fn main(rt: HostRuntime) -> io::Result<()> {
@@ -40,6 +40,9 @@ fn main(rt: HostRuntime) -> io::Result<()> {
             2,
             |record| one(remainder(record.argument(0), record.argument(1))),
         ),
+        Entry::new("sqrt_rounds", 1, |record| {
+            whole(u64::from(sqrt_rounds(record.argument(0))))
+        }),
     ];
     run(rt.alloc(), &mut rt.stdin(), &mut rt.stdout(), &table)
 }

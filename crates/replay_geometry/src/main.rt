@@ -1,80 +1,18 @@
-// Reads the oracle's list (oracle/README.md) from standard input, compares the origins, the face triangles and a set that
-// open has just written with it, and asks nearest and the functions on triangles at each stored argument, bit for bit. It
-// writes a line for each function: how many outcomes were compared, and how many differ. It shows the first three records
-// of each function that differ, and says so where the list is malformed.
+// Reads the oracle's lists (oracle/README.md) from standard input, of the origins, the face figure, the frame and nearest, and of the
+// changes of coordinates, asks the crates at each stored argument, and compares the outcomes bit for bit. It writes a line for each
+// function: how many outcomes were compared, and how many differ. It shows the first three records of each function that differ, and
+// says so where a list is malformed.
 #![tactic(auto)]
 
-mod ask;
-mod buffers;
-mod tables;
+mod changes;
+mod figure;
 
-use crate::buffers::FOREIGN;
-use nearest::origins::BuiltIn;
-use nearest_calls::nearest;
-use open_calls::open;
-use replay::function::Function;
-use replay::outcome::{Outcome, nowhere, one, told, whole};
-use replay::record::Record;
-use replay_arguments::spherical;
-use replay_tally::Tally;
-use set::sizes::{FACE_STORE, FRAME, SPHERE_STORE};
+use replay::section::section;
 use std::io;
 
-// The buffers of an opened set. They are replay_draw's `Set` too, which would bring in all calls and draws for three arrays.
-#[derive(Drop)]
-struct Set {
-    frame: [f64; FRAME],
-    face: [f64; FACE_STORE],
-    sphere: [f64; SPHERE_STORE],
-}
-
-// The outcome of a record's function, on an opened set. None where a record asks for a place that there is not. The numbers are those of
-// the list in main, and no table as in `replay_tally::table`, whose functions can't be lent the set.
-fn outcome(set: &Set, record: &Record) -> Option<Outcome> {
-    match record.head.number {
-        1 => tables::number_of_origin(record),
-        2 => tables::corner_of_triangle(record),
-        3 => buffers::row(&set.frame, record),
-        4 => buffers::row(&set.face, record),
-        5 => buffers::row(&set.sphere, record),
-        6 => buffers::outcome(record),
-        7 => buffers::changes(record),
-        8 => Some(told(
-            nearest(BuiltIn, spherical(record, 0)),
-            |id| whole(u64::from(id)),
-        )),
-        9 => Some(told(ask::haversine(record), one)),
-        10 => Some(ask::turned(record)),
-        11 => Some(ask::get_face_triangle_index(record)),
-        12 => Some(ask::normalize_gamma(record)),
-        _ => Some(ask::should_reflect(record)),
-    }
-}
-
 fn main(rt: HostRuntime) -> io::Result<()> {
-    let functions = [
-        Function::new("get_origin", 2),
-        Function::new("face_triangle", 2),
-        Function::new("frame", 1),
-        Function::new("face_store", 1),
-        Function::new("sphere_store", 1),
-        Function::new("open", 3),
-        Function::new("open_changes", 3),
-        Function::new("nearest", 2),
-        Function::new("haversine", 4),
-        Function::new("transform_quat", 7),
-        Function::new("get_face_triangle_index", 2),
-        Function::new("normalize_gamma", 1),
-        Function::new("should_reflect", 2),
-    ];
-    let mut set = Set {
-        frame: [FOREIGN; FRAME],
-        face: [FOREIGN; FACE_STORE],
-        sphere: [FOREIGN; SPHERE_STORE],
-    };
-    // Where it is not opened, the rows differ.
-    let _given = open(BuiltIn, &mut set.frame, &mut set.face, &mut set.sphere);
-    Tally::new(&functions).run(&mut rt.stdin(), &mut rt.stdout(), |record| {
-        outcome(&set, record).unwrap_or(nowhere())
-    })
+    let mut from = rt.stdin();
+    let mut to = rt.stdout();
+    figure::run_list(&mut section(&mut from)?, &mut to)?;
+    changes::run_list(rt.alloc(), &mut section(&mut from)?, &mut to)
 }

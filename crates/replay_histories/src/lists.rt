@@ -1,4 +1,4 @@
-// Lists of calls on one set, beside a second one that gathers what the calls write on newly opened sets. replay_table_histories runs
+// Lists of calls on one set, beside a second one that gathers what the calls write on newly opened sets. `with_tables` runs
 // its lists alike; each call there brings a table or takes one, and is counted elsewhere.
 use crate::counts::count_outcome;
 use nearest::origins::BuiltIn;

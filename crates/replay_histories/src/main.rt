@@ -2,13 +2,15 @@
 // and unplace, each list of positions, region and step of the caption panel is made on a newly opened set too, and must
 // come to the same there, bit for bit, with every result, point and byte that it leaves. Two stores gather what
 // those calls have written there since the last open: after each call the set's stores must equal them in every number,
-// and its frame the first open's. Last the oracle's list (oracle/README.md) is read from standard input, each of its
-// vertices compared with what show hands back, and each b × c with what stands behind them in the sphere store.
+// and its frame the first open's. Then the oracle's list (oracle/README.md) is read from standard input, each of its
+// vertices compared with what show hands back, and each b × c with what stands behind them in the sphere store. Last, lists with
+// tables are run alike (`with_tables`).
 #![tactic(auto)]
 
 mod counts;
 mod lists;
 mod vertices;
+mod with_tables;
 
 use crate::lists::History;
 use replay::function::Function;
@@ -46,5 +48,6 @@ fn main(rt: HostRuntime) -> io::Result<()> {
         .tally
         .run(&mut rt.stdin(), &mut rt.stdout(), |record| {
             vertices::of_record(&history.set, record)
-        })
+        })?;
+    with_tables::run(&mut rt.stdout())
 }

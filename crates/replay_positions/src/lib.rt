@@ -1,5 +1,5 @@
-// What the programs that replay lists of positions and regions share: the numbers of their records, what their notes hold,
-// open, and a position.
+// What both lists of replay_lists share, of positions and of regions: the numbers of their records, what their notes hold, open, and a
+// position.
 #![tactic(auto)]
 
 ghost use Rattle.std.specs.Prelude.{◌≡◌, ◌≤◌, length, slice_set, IfSome, IsNone};
@@ -21,6 +21,9 @@ use replay_sets::tables::TABLES;
 pub const OPEN: u8 = 2;
 
 pub const WITH: u8 = 3;
+
+// The number that the comparisons of the set are counted under, after those of the calls. No record has it.
+pub const BUFFERS: u8 = 4;
 
 // What the set should hold, then what the Rust has for an opened set with every slot filled, and then the tables.
 pub const TABLES_AT: usize = 2 * DEFINED_AT;

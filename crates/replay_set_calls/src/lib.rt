@@ -1,5 +1,5 @@
-// A record's call on a set with notes, for the programs that replay forward, inverse, place, unplace and open: with the
-// built-in table, or with one that is handed over.
+// A record's call on a set with notes, for both lists of replay_calls: forward, inverse, place, unplace or open, with the built-in table or
+// with one that is handed over.
 #![tactic(auto)]
 
 mod asked;

@@ -7,10 +7,10 @@ use lib.ListN.{length, get_or, take, drop, length-append, length-drop, length-re
 use lib.Seq.{take_at, drop_at, get_or_at, get_or-drop, drop-cons, drop-drop, drop-append-le, take-append-le}
 use Rattle.decimal.specs.Decimal.{digit, decimal}
 use Rattle.decimal.proofs.Digits.{by_digits}
-use Rattle.sheet_lines.specs.Page.{SPACE, NEWLINE, spaces, line, right_aligned, numbered, lines_of, page_of}
+use Rattle.sheet.specs.Page.{SPACE, NEWLINE, spaces, line, right_aligned, numbered, lines_of, page_of}
 use Rattle.sheet.specs.Claims.{columns_at}
 use Rattle.decimal.proofs.Columns.{length_aligned}
-use Rattle.sheet_lines.proofs.Lines.{sixty, lines_long, first_long}
+use Rattle.sheet.proofs.Lines.{sixty, lines_long, first_long}
 
 -- ---- texts with no newline
 abbrev pub Printable : List ℕ → Type 0

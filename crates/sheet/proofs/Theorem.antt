@@ -16,13 +16,13 @@ use Rattle.window.specs.Kept.{Strike, kept, accepted, count}
 use Rattle.window.specs.EveryList.{sum, after}
 use Rattle.window.proofs.Recent.{count_most}
 use Rattle.window.proofs.Theorem.{every_list}
-use Rattle.sheet_lines.specs.Page.{TITLE, ALL, line, right_aligned, numbered, lines_of, page_of}
+use Rattle.sheet.specs.Page.{TITLE, ALL, line, right_aligned, numbered, lines_of, page_of}
 use Rattle.sheet.specs.Sheet.{PAGE, sheet_given, page_after, SheetOf}
 use Rattle.std.specs.Prelude.{Result}
 use Rattle.answer.specs.declared.Refusal.{Refusal}
 use Rattle.sheet.specs.Claims.{columns_at, LaidOut, ReadsBack, EveryPage, SamePage, SameCounts, EverySheet}
 use Rattle.decimal.proofs.Columns.{length_aligned, reads_aligned}
-use Rattle.sheet_lines.proofs.Lines.{each_line, row_at, first_long, all_lines}
+use Rattle.sheet.proofs.Lines.{each_line, row_at, first_long, all_lines}
 use Rattle.sheet.proofs.Columns.{Columns, line_columns, numbered_columns, number_prints, newline_of, column_of, number_of, left_of, byte_in, columns_in}
 
 module _ (counts : List ℕ) where

@@ -5,7 +5,7 @@ use Rattle.window.specs.Window.{empty_window}
 use Rattle.window.specs.Kept.{Strike, kept, accepted, count}
 use Rattle.window.specs.EveryList.{sum, after}
 use Rattle.window.specs.declared.Window.{Window}
-use Rattle.sheet_lines.specs.Page.{SPACE, NEWLINE, page_of}
+use Rattle.sheet.specs.Page.{SPACE, NEWLINE, page_of}
 use Rattle.sheet.specs.Sheet.{PAGE, SheetOf}
 use Rattle.answer.specs.declared.Refusal.{Refusal}
 

@@ -3,7 +3,7 @@ use Rattle.std.specs.Prelude.{ℕ, ◌≡◌, not, List, Result, eqb, length}
 use Rattle.answer.specs.Given.{Given, answered, refused, passed, refuse_if}
 use Rattle.answer.specs.Answer.{given}
 use Rattle.answer.specs.declared.Refusal.{Refusal}
-use Rattle.sheet_lines.specs.Page.{page_of}
+use Rattle.sheet.specs.Page.{page_of}
 
 -- 60 lines of 80 columns and a newline
 abbrev pub PAGE : ℕ

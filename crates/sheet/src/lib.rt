@@ -3,12 +3,15 @@
 // every byte of the page is defined.
 #![tactic(auto)]
 
+mod line;
+mod text;
+
 ghost use Rattle.std.specs.Prelude.{◌≡◌, length};
-ghost use Rattle.sheet_lines.specs.Page.{page_of};
+ghost use Rattle.sheet.specs.Page.{page_of};
 ghost use Rattle.sheet.specs.Sheet.{SheetOf};
 
+use crate::line::write_line;
 use answer::Refusal;
-use sheet_lines::write_line;
 use window::Window;
 
 // The bytes of a page, and those of a line with its newline.

@@ -1,16 +1,19 @@
 // Sine, cosine and tangent (document 01, "Elementary steps"). They answer "outside" for finite
-// arguments beyond ±64 (Paper 7); where an argument is proved not to be outside, those of crate
-// `sine_inside` give the value alone.
+// arguments beyond ±64 (Paper 7); where an argument is proved not to be outside, those of `inside`
+// give the value alone.
 #![tactic(auto)]
+
+pub mod inside;
+mod series;
 
 ghost use Rattle.std.specs.Prelude.{◌≡◌, true, false, OnOk, IfErr};
 ghost use Rattle.answer.specs.Answer.{number_of, given};
 ghost use Rattle.arithmetic.specs.Arith.{ieee};
 ghost use Rattle.elementary.specs.Sine.{outside, sin_given, cos_given, sin_cos_given, tan_given};
 
+use crate::inside::{cos_inside, sin_cos_inside, sin_inside, tan_inside};
 use answer::Refusal;
 use elementary::sine::SinCos;
-use sine_inside::{cos_inside, sin_cos_inside, sin_inside, tan_inside};
 
 // Whether x is finite and beyond ±64: 64 itself is not.
 pub fn is_outside(x: f64) -> bool

@@ -1,4 +1,5 @@
-// The square root. Each public function is total and has no requires.
+// The square root, and its digits. Each public function of `root` is total and has no requires.
 #![tactic(auto)]
 
 pub mod root;
+mod root_digits;

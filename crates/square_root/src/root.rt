@@ -1,4 +1,4 @@
-// IEEE 754's square root, in 64-bit words: its binary digits, one a round (crate `root_digits`), and half the exponent. The rounds run
+// IEEE 754's square root, in 64-bit words: its binary digits, one a round (`root_digits`), and half the exponent. The rounds run
 // are a call of their own.
 ghost use Rattle.std.specs.Prelude.{◌≡◌, false, ◌*◌, ◌^◌, ◌≤◌, ◌<◌};
 ghost use Rattle.std.specs.Float.{binary64};
@@ -6,10 +6,10 @@ ghost use Rattle.std.specs.Float.Ieee.{of_bits};
 ghost use Rattle.std.specs.Float.Ieee.Positive.{positive};
 ghost use Rattle.arithmetic.specs.Rounds.{sqrt_rounds};
 ghost use Rattle.arithmetic.specs.Sqrt.{sqrt};
-ghost use Rattle.root_digits.specs.Digits.{Ended};
+ghost use Rattle.square_root.specs.Digits.{Ended};
 ghost use Rattle.square_root.specs.Root.{Pattern, Radicand};
 
-use root_digits::{Digits, digits_from, digits_of_both, no_digits, rounded};
+use crate::root_digits::{Digits, digits_from, digits_of_both, no_digits, rounded};
 
 // x's pattern where x is finite and above zero.
 fn pattern(x: f64) -> Option<u64>

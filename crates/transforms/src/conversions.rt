@@ -15,7 +15,7 @@ pub fn from_lon_lat(lonlat: LonLat) -> Result<Spherical, Refusal>
     ensures { given result ≡ from_lon_lat_given ieee lonlat }
 {
     check_lon_lat(lonlat)?;
-    finite_spherical(geographic::from_lon_lat(lonlat))
+    finite_spherical(crate::geographic::from_lon_lat(lonlat))
 }
 
 // Spherical angles to longitude and latitude: refuses with 5 and 6, and with 9 where a number is not finite.
@@ -24,5 +24,5 @@ pub fn to_lon_lat(spherical: Spherical) -> Result<LonLat, Refusal>
     ensures { given result ≡ to_lon_lat_given ieee spherical }
 {
     check_spherical(spherical)?;
-    finite_lon_lat(geographic::to_lon_lat(spherical))
+    finite_lon_lat(crate::geographic::to_lon_lat(spherical))
 }

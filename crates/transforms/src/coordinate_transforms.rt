@@ -9,7 +9,7 @@ use coordinates::base::Radians;
 use coordinates::coords::Cartesian;
 use coordinates::spherical::Spherical;
 use coordinates::vec3::Vec3;
-use sine_inside::sin_cos_inside;
+use sine::inside::sin_cos_inside;
 use square_root::root::sqrt;
 
 // A point of space by its two angles, theta from the x axis and phi from the z axis. The two arc

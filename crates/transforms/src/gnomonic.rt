@@ -15,7 +15,7 @@ pub fn forward(spherical: Spherical) -> Polar
 {
     let theta = spherical.theta;
     Polar {
-        rho: sine_inside::tan_inside(spherical.phi.0),
+        rho: sine::inside::tan_inside(spherical.phi.0),
         gamma: theta,
     }
 }

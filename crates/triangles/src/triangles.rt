@@ -13,12 +13,12 @@ use coordinates::coords::{Cartesian, Face, FaceTriangle, SphericalTriangle};
 use coordinates::polar::Polar;
 use coordinates::vec2::Vec2;
 use coordinates::vec3::Vec3;
-use plane::to_polar;
-use quaternion::transform_quat;
+use origin::quaternion::transform_quat;
 use set::on_origin::SoundOrigin;
 use set::sizes::FACE_WIDTH;
 use stores::slots::is_filled;
 use transforms::coordinate_transforms::to_cartesian;
+use transforms::plane::to_polar;
 
 // The triangle of a run of coordinates, as it stands. Runs are slices, as they are cut from a store: to be an array each would be tried for
 // its length once more, which is known.

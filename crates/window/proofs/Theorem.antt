@@ -21,7 +21,7 @@ use Rattle.window.specs.EveryList.{ring, strikes_of, add_on, after, Holds, Every
 use Rattle.window.proofs.Ways.{gets_4, gets_17, gets_18, gets_none, no_origin, too_early, no_room, has_room, counts_remaining, built, builds_window}
 use Rattle.window.proofs.Recent.{either, Ordered, ordered_within, ordered_more, last_more, within_within, kept_more, drop_oldest, drops_within, length_more}
 use Rattle.window.proofs.Counted.{Counted, one_more, adds_up}
-use Rattle.window.proofs.Ring.{ring_length, ring_more, ring_drops, counts_drop}
+use Rattle.window.proofs.RingStrikes.{ring_length, ring_more, ring_drops, counts_drop}
 
 pub record Ready (w : Window) (acc : List Strike) : Type 0 where
   pub minutes : length w.minutes ≡ MOST

@@ -4,8 +4,8 @@ use Rattle.std.specs.Prelude.{ℕ, ◌+◌, ◌-◌, ◌%◌, min, ◌≡◌, Re
 use Rattle.answer.specs.Given.{Given, answered, refused, passed, refuse_if}
 use Rattle.answer.specs.Answer.{given}
 use Rattle.answer.specs.declared.Refusal.{Refusal}
-pub use Rattle.window_ring.specs.Ring.{next}
-unfoldable pub use Rattle.window_ring.specs.Ring.{lower, raise, remain, lowered}
+pub use Rattle.window.specs.Ring.{next}
+unfoldable pub use Rattle.window.specs.Ring.{lower, raise, remain, lowered}
 use Rattle.window.specs.declared.Window.{Window}
 use Rattle.window.specs.Window.{MOST, window_of, state_of}
 

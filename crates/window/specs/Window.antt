@@ -1,6 +1,6 @@
 -- Paper 5: "a window of at most 4,096 strikes, each with an unsigned 32-bit minute and an origin". Definitions only.
 use Rattle.std.specs.Prelude.{ℕ, List, replicate}
-pub use Rattle.window_ring.specs.Ring.{MOST, SPAN}
+pub use Rattle.window.specs.Ring.{MOST, SPAN}
 use Rattle.window.specs.declared.State.{State}
 use Rattle.window.specs.declared.Window.{Window}
 

@@ -2,18 +2,20 @@
 // 4,096, in a ring, and counts them by origin. No function has a `requires`: whatever a window holds, an addition ends.
 #![tactic(auto)]
 
+mod ring;
+
 ghost use Rattle.std.specs.Prelude.{◌≡◌};
 ghost use Rattle.window.specs.Window.{empty_window};
 ghost use Rattle.window.specs.Addition.{AddedTo};
 
+use crate::ring::{ORIGINS, PLACES, lower_counts, raise_count, remaining};
 use answer::Refusal;
-use window_ring::{ORIGINS, PLACES, lower_counts, raise_count, remaining};
 
 // The most strikes that a window keeps: one in each place of the ring.
-const MOST: u32 = 4096;
+const MOST: u32 = PLACES as u32;
 
 // The last of the origins' ids.
-const LAST_ORIGIN: u8 = 11;
+const LAST_ORIGIN: u8 = ORIGINS as u8 - 1;
 
 // What a window knows beside its strikes and counts: the place of the oldest strike, how many are kept, and the minute of
 // the last one accepted.

@@ -86,6 +86,8 @@ pub struct Counts {
 
 fn stop(call: usize, place: Where, arguments: &[f64], lent: Option<[usize; 3]>, text: &str) -> ! {
     let place = PLACES.iter().find(|p| p.0 == place).expect("a place").1;
+    // held to the end: another part of the run may have found one too
+    let _held = std::io::stdout().lock();
     println!("DIFFERENCE in {} ({place})", CALLS[call]);
     for x in arguments {
         println!("  argument {}", show(*x));

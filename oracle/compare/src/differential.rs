@@ -27,6 +27,8 @@ const A_SET: u64 = 4;
 // So many turns, and the oracle's own list of foreign contents runs too.
 const A_LIST: u64 = 20_000;
 
+const PARTS: u64 = 4;
+
 // The way back from an answer, which has its numbers as the other call takes them.
 pub fn back(call: Call, x: &[f64], answer: &[f64]) -> (Call, Vec<f64>) {
     match call {
@@ -193,16 +195,19 @@ impl Run {
 
 // A word on standard error at every tenth of a long run.
 fn progress(turn: u64, n: u64) {
-    if n >= 100_000 && turn % (n / 10) == 0 {
+    if n >= 25_000 && turn % (n / 10) == 0 {
         eprintln!("{turn} of {n}");
     }
 }
 
-pub fn run(n: u64, seed: u64, spoil: Option<Spoil>) {
+// So many turns, from a seed, and what they have compared.
+fn part(n: u64, seed: u64, spoil: Option<Spoil>, tells: bool) -> Counts {
     let mut run = Run::new(seed, spoil);
     run.kept.open_and_keep();
     for turn in 0..n {
-        progress(turn, n);
+        if tells {
+            progress(turn, n);
+        }
         run.turn(turn);
     }
     if run.kept.is_full() {
@@ -217,8 +222,34 @@ pub fn run(n: u64, seed: u64, spoil: Option<Spoil>) {
         counts.add(&script.counts);
     }
     counts.add(&run.boxes.counts);
-    counts.write();
-    windows::run(n, seed, None);
-    sheets::run(n, seed, None);
+    counts
+}
+
+// In parts side by side, each with sets and a seed of its own; as many on every machine, so that a seed gives the same run there. With
+// something changed on the library's side it is one part: that is looked for in few turns.
+pub fn run(n: u64, seed: u64, spoil: Option<Spoil>) {
+    let parts = if spoil.is_some() { 1 } else { PARTS };
+    std::thread::scope(|scope| {
+        let windows = scope.spawn(move || windows::run(n, seed, None));
+        let sheets = scope.spawn(move || sheets::run(n, seed, None));
+        let runs: Vec<_> = (0..parts)
+            .map(|k| {
+                let turns = (n + k) / parts;
+                let seed = seed.wrapping_add(k << 32);
+                scope.spawn(move || part(turns, seed, spoil, k == 0))
+            })
+            .collect();
+        let mut counts = Counts::default();
+        for run in runs {
+            counts.add(&run.join().expect("a part ends"));
+        }
+        counts.write();
+        for compared in windows.join().expect("windows end") {
+            compared.write();
+        }
+        for compared in sheets.join().expect("sheets end") {
+            compared.write();
+        }
+    });
     println!("{n} inputs a call, seed {seed}: no difference");
 }

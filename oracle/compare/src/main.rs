@@ -47,10 +47,10 @@ mod refused;
 #[path = "../../regions/src/regions.rs"]
 mod region_oracle;
 mod regions;
-#[path = "../../roots/src/inputs.rs"]
+#[path = "../../elementary/src/root_inputs.rs"]
 mod root_inputs;
 mod roots;
-#[path = "../../roots/src/rounds.rs"]
+#[path = "../../elementary/src/rounds.rs"]
 mod rounds;
 mod row;
 mod script;
@@ -100,10 +100,10 @@ fn main() {
         ["--distance", n, seed] => distance::run(number(n) as usize, number(seed)),
         [n, seed] => differential::run(number(n), number(seed), None),
         [n, seed, "window", what, place] => {
-            windows::run(number(n), number(seed), Some((what, place)))
+            windows::run(number(n), number(seed), Some((what, place)));
         }
         [n, seed, "sheet", what, place] => {
-            sheets::run(number(n), number(seed), Some((what, place)))
+            sheets::run(number(n), number(seed), Some((what, place)));
         }
         [n, seed, call, what, place] => {
             let spoil = Spoil::named(call, what, place).expect("a call, what is changed and where");

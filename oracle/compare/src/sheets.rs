@@ -17,7 +17,7 @@ const BEFORE: u8 = 0xa5;
 pub const WHATS: [&str; 5] = ["status", "left", "page", "behind", "window"];
 pub const PLACES: [&str; 2] = ["windows", "foreign counts"];
 
-struct Compared {
+pub struct Compared {
     place: &'static str,
     spoil: Option<&'static str>,
     printed: u64,
@@ -72,7 +72,7 @@ impl Compared {
         }
     }
 
-    fn write(&self) {
+    pub fn write(&self) {
         println!(
             "sheet: {} pages and whole windows compared, 0 differ ({}: printed {}, refused 26: {})",
             self.printed + self.refused,
@@ -112,7 +112,7 @@ fn length(g: &mut Generator) -> usize {
 }
 
 // N additions with a page before each, and N pages of foreign counts.
-pub fn run(n: u64, seed: u64, spoil: Option<(&str, &str)>) {
+pub fn run(n: u64, seed: u64, spoil: Option<(&str, &str)>) -> [Compared; 2] {
     let spoil_at = |place| {
         let what = spoil.filter(|s| s.1 == place)?.0;
         WHATS.into_iter().find(|w| *w == what)
@@ -146,6 +146,5 @@ pub fn run(n: u64, seed: u64, spoil: Option<(&str, &str)>) {
         let lent = length(&mut draw.g);
         strange.print(&mut foreign, lent);
     }
-    windows.write();
-    strange.write();
+    [windows, strange]
 }

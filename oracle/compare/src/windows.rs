@@ -130,7 +130,7 @@ fn foreign_strike(g: &mut Generator, window: &raw::Window) -> Strike {
 // ---- the comparison
 
 // One place where windows are compared. The change of the self-test is made once.
-struct Compared {
+pub struct Compared {
     place: &'static str,
     spoil: Option<&'static str>,
     counts: [u64; 19],
@@ -226,7 +226,7 @@ impl Compared {
         given
     }
 
-    fn write(&self) {
+    pub fn write(&self) {
         let [added, four, seventeen, eighteen] = [0, 4, 17, 18].map(|n| self.counts[n]);
         let total = added + four + seventeen + eighteen;
         println!(
@@ -292,7 +292,7 @@ fn start(g: &mut Generator) -> u32 {
 }
 
 // N additions in long lists, and N on foreign contents.
-pub fn run(n: u64, seed: u64, spoil: Option<(&str, &str)>) {
+pub fn run(n: u64, seed: u64, spoil: Option<(&str, &str)>) -> [Compared; 2] {
     let spoil_at = |place| {
         let what = spoil.filter(|s| s.1 == place)?.0;
         WHATS.into_iter().find(|w| *w == what)
@@ -320,6 +320,5 @@ pub fn run(n: u64, seed: u64, spoil: Option<(&str, &str)>) {
         let strike = foreign_strike(&mut draw.g, &wanted);
         strange.add(&mut lent, &mut wanted, strike);
     }
-    long.write();
-    strange.write();
+    [long, strange]
 }

@@ -1,4 +1,4 @@
-// Writes the oracle's answers to standard output, or with the word `test` tries its own steps.
+// Writes the oracle's answers to standard output, or with the word `test` tries its own steps and rounds.
 
 #[path = "../../common/generator.rs"]
 mod generator;
@@ -6,6 +6,9 @@ mod inputs;
 #[allow(dead_code)]
 #[path = "../../common/list.rs"]
 mod list;
+mod root_inputs;
+mod rounds;
+mod rounds_selftest;
 mod selftest;
 mod steps;
 #[path = "../../common/values.rs"]
@@ -61,9 +64,18 @@ fn answers() -> List {
     for (x, y) in inputs::divisions(&mut Generator::new(13)) {
         list.answered(13, &[x, y], &[x % y]);
     }
+    // the roots and the rounds, as whole numbers, of Paper 2's numbers
+    let numbers = root_inputs::all(&mut Generator::new(1));
+    records(&mut list, 5, steps::sqrt, &numbers);
+    let rounds = |x| f64::from_bits(rounds::sqrt_rounds(x).into());
+    records(&mut list, 14, rounds, &numbers);
     list
 }
 
 fn main() {
-    list::run(selftest::run, answers);
+    let tests = || {
+        selftest::run();
+        rounds_selftest::run();
+    };
+    list::run(tests, answers);
 }

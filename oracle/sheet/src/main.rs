@@ -1,4 +1,4 @@
-// The stored list of crate replay_sheet: windows with their pages. With the word `test` the oracle's own tests.
+// The list of the sheet that crate replay_tools is run on: windows with their pages. With the word `test` the oracle's own tests.
 
 #[path = "../../window/src/draw.rs"]
 mod draw;

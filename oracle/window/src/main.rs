@@ -1,4 +1,4 @@
-// The stored list of crate replay_window: long lists of additions with what each gives, and at times the counts, the number
+// The list of windows that crate replay_tools is run on: long lists of additions with what each gives, and at times the counts, the number
 // kept and some of the kept strikes. With the word `test` the oracle's own tests.
 
 mod draw;

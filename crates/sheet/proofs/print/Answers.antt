@@ -6,7 +6,7 @@ use borrow.Author.Tests.{eq-eqb, ne_eqb}
 use lib.ListN.{length}
 use Rattle.std.specs.Prelude.{Ok, Err}
 use Rattle.answer.specs.Given.{Given, refused, passed}
-use Rattle.sheet_lines.specs.Page.{page_of}
+use Rattle.sheet.specs.Page.{page_of}
 use Rattle.sheet.specs.Sheet.{PAGE, sheet_given, page_after, SheetOf}
 use Rattle.answer.specs.declared.Refusal.TheVariants as refusal
 use Rattle.sheet.proofs.print.Goals as goal

@@ -6,7 +6,7 @@ use Prim.Native.Nat.{◌+◌, ◌*◌, ◌-◌}
 use native.Mathlib.Numerals.{add-one}
 use native.Mathlib.Omega.{arith}
 use lib.ListN.{length}
-use Rattle.sheet_lines.proofs.Lines.{up_to_long, one_line_more, all_lines_stand}
+use Rattle.sheet.proofs.Lines.{up_to_long, one_line_more, all_lines_stand}
 use Rattle.sheet.proofs.write_page.Goals as goal
 
 pub loop-place-init : goal.loop-place-init

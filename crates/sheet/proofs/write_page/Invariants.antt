@@ -2,7 +2,7 @@
 -- Assumes nothing.
 use mathlib.Core.Path.{◌≡◌}
 use lib.ListN.{length}
-use Rattle.sheet_lines.proofs.Lines.{up_to}
+use Rattle.sheet.proofs.Lines.{up_to}
 use Rattle.sheet.proofs.write_page.Given as goal
 
 abbrev pub invariant-loop-place : goal.invariant-loop-place

@@ -1,4 +1,4 @@
--- `counted` meets its contract. Assumes nothing.
+-- `root::counted` meets its contract. Assumes nothing.
 use mathlib.Core.Path.{sym, ap, ◌∙◌}
 use Prim.Native.Nat.{◌*◌, ◌^◌}
 use native.Mathlib.Omega.{arith}
@@ -7,7 +7,7 @@ use lib.Ieee.Bits.{of_bits-fits}
 use Rattle.arithmetic.specs.Rounds.{sqrt_rounds}
 use Rattle.arithmetic.specs.Sqrt.{sqrt}
 use Rattle.arithmetic.proofs.Rounds.{rounds_elsewhere}
-use Rattle.root_digits.proofs.Round.{rounds_are}
+use Rattle.square_root.proofs.Round.{rounds_are}
 use Rattle.square_root.proofs.RootBits.{radicand_is, radicand_wide}
 use Rattle.square_root.proofs.root.counted.Goals as goal
 

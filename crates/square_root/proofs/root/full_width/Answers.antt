@@ -1,4 +1,4 @@
--- `full_width` meets its contract. Assumes nothing.
+-- `root::full_width` meets its contract. Assumes nothing.
 use mathlib.Core.Path.{refl}
 use mathlib.Core.Bool.{false}
 use Prim.Native.Nat.{◌*◌, ◌^◌}

@@ -1,4 +1,4 @@
--- `pattern` meets its contract: from infinity's pattern on there are infinities, NaNs and the values whose sign is set. Assumes nothing.
+-- `root::pattern` meets its contract: from infinity's pattern on there are infinities, NaNs and the values whose sign is set. Assumes nothing.
 use borrow.Author.Tests.{le-leb}
 use mathlib.Core.Path.{◌≡◌, refl, sym, ap, ◌∙◌, subst}
 use mathlib.Core.Bool.{false}

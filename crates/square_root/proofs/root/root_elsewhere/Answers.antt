@@ -1,4 +1,4 @@
--- `root_elsewhere` meets its contract. Assumes nothing.
+-- `root::root_elsewhere` meets its contract. Assumes nothing.
 use lib.Ieee.{of_bits}
 use Rattle.square_root.proofs.RootBits.{below_zero, own_root}
 use Rattle.square_root.proofs.root.root_elsewhere.Goals as goal

@@ -1,4 +1,4 @@
--- `root_value` meets its contract: the nearest root's digits and half the exponent are the root's pattern. Assumes nothing.
+-- `root::root_value` meets its contract: the nearest root's digits and half the exponent are the root's pattern. Assumes nothing.
 use lib.Ieee.{binary64, of_bits}
 use lib.Ieee.Bits.{of_bits-fits}
 use Rattle.square_root.proofs.RootBits.{radicand_hi, made_lt, made_number, made_root}

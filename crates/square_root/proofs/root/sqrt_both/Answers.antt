@@ -1,4 +1,4 @@
--- `sqrt_both` meets its contract: each root is that of its own pattern's value. Assumes nothing.
+-- `root::sqrt_both` meets its contract: each root is that of its own pattern's value. Assumes nothing.
 use mathlib.Core.Path.{ap, ◌∙◌}
 use Rattle.arithmetic.specs.Sqrt.{sqrt}
 use Rattle.square_root.proofs.root.sqrt_both.Goals as goal

@@ -1,4 +1,4 @@
--- `widened` meets its contract. Assumes nothing.
+-- `root::widened` meets its contract. Assumes nothing.
 use mathlib.Core.Path.{refl, ap, ◌∙◌}
 use Prim.Native.Nat.{ℕ, ◌+◌, ◌-◌, ◌*◌, ◌^◌}
 use native.Mathlib.Omega.{arith}

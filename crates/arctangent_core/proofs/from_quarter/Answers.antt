@@ -1,8 +1,0 @@
--- `from_quarter` meets its contract: its coefficients are the definition's. Assumes nothing.
-use lib.Ieee.{of_bits}
-use Rattle.elementary.specs.Constants.{core_first, core_rest}
-use Rattle.arctangent_core.proofs.from_quarter.Goals as goal
-
-pub returns : goal.returns
-unfolding core_first core_rest of_bits
-returns c = rw c.series.ensures

@@ -1,2 +1,0 @@
--- Show and its companion as C functions. Definitions only.
-pub mod Slots

@@ -1,2 +1,0 @@
--- The table file as C functions. Definitions only.
-pub mod Files

@@ -1,0 +1,45 @@
+// The calls on a set: a region, with a table too, and open.
+use crate::regions::outline::Outline;
+use nearest::origins::{BuiltIn, Origins};
+use region::region;
+use replay::outcome::{Outcome, done, told, whole};
+use replay::record::Record;
+use replay_positions::{OPEN, TABLES_AT, WITH, opened};
+use replay_sets::asked::lengths;
+use replay_sets::noted::Set;
+use replay_sets::tables::table;
+
+// A region has how many positions and points are lent, and the three lengths. Every point holds the same before. An answer's
+// origin is told, and its box is left beside the points.
+fn outlined<O: Origins>(
+    origins: O,
+    set: &mut Set,
+    outline: &mut Outline,
+    record: &Record,
+) -> Option<Outcome> {
+    let mut lent = set.lend_set(lengths(record, 2))?;
+    outline.clear();
+    let positions = outline.positions.as_slice().get(..record.word(0) as usize)?;
+    let points = outline
+        .points
+        .as_mut_slice()
+        .get_mut(..record.word(1) as usize)?;
+    let given = region(origins, &mut lent, positions, points);
+    if let Ok(answer) = given {
+        outline.bounds = answer.bounds;
+    }
+    Some(told(given, |answer| whole(u64::from(answer.origin))))
+}
+
+// The call of a record. A region with a table has the number of that behind its other arguments. Alike for
+// lists, which has the reason.
+pub fn called(set: &mut Set, outline: &mut Outline, record: &Record) -> Option<Outcome> {
+    match record.head.number {
+        OPEN => opened(set, record),
+        WITH => {
+            let rows = table(&set.notes, TABLES_AT, record.word(5));
+            outlined(rows, set, outline, record)
+        }
+        _ => outlined(BuiltIn, set, outline, record),
+    }
+}

@@ -1,4 +1,0 @@
--- Laws behind the proofs of the functions.
-pub mod Marked
-pub mod Mask
-pub mod Round

@@ -1,2 +1,0 @@
--- Paper 13, "The as-run sheet": a line. Definitions only.
-pub mod Line

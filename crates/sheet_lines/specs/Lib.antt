@@ -1,3 +1,0 @@
--- Paper 13, "The as-run sheet": the page. Definitions only.
-pub mod Letters
-pub mod Page

@@ -1,8 +1,0 @@
--- `tan_inside` meets its contract. Assumes nothing.
-use Rattle.std.proofs.Common.{refl}
-use Rattle.elementary.specs.Sine.{tan}
-use Rattle.sine_inside.proofs.tan_inside.Goals as goal
-
-pub returns : goal.returns
-unfolding tan
-returns c = rw c.sin_cos_inside-p.ensures refl

@@ -1,2 +1,0 @@
--- geometry/spherical_polygon.rs. Definitions only.
-pub mod SphericalPolygon

@@ -1,2 +1,0 @@
--- What the proofs of the loops share.
-pub mod Loops

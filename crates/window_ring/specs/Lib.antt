@@ -1,2 +1,0 @@
--- Paper 5: strikes in a ring, and their counts. Definitions only.
-pub mod Ring
