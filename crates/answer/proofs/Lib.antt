@@ -1,4 +1,5 @@
--- Laws on what a call gives, for the proofs of every call, on the bits of a NaN and on finite values.
+-- Laws on what a call gives, for the proofs of every call, on the bits of a NaN, on finite values and on bytes.
 pub mod Given
 pub mod NanBits
 pub mod Finite
+pub mod Bytes

@@ -1,5 +1,7 @@
-// Refusals and their numbers, and the checks of one number (document 01, "Calls and their numbers"); the bits of a number.
+// Refusals and their numbers, and the checks of one number (document 01, "Calls and their numbers"); the bits of a number, and its bytes.
 #![tactic(auto)]
+
+pub mod big_endian;
 
 ghost use Rattle.std.specs.Prelude.{◌≡◌};
 ghost use Rattle.std.specs.Float.{binary64};

@@ -6,11 +6,11 @@ pub mod core_step;
 ghost use Rattle.std.specs.Prelude.{◌≡◌};
 ghost use Rattle.arithmetic.specs.Arith.{ieee};
 ghost use Rattle.arithmetic.specs.Sqrt.{sqrt};
-ghost use Rattle.float_parts.specs.Signs.{abs, with_sign};
+ghost use Rattle.elementary.specs.Signs.{abs, with_sign};
 ghost use Rattle.elementary.specs.Arctangent.{core, atan_size, atan, tangent, atan2_base, atan2};
 
 use crate::core_step::{AngleAndRoot, core, core_and_sqrt, core_both};
-use float_parts::signs::{abs, negative};
+use elementary::signs::{abs, negative};
 use std::f64::consts::{FRAC_PI_2, PI};
 
 // The angle of a tangent that is not negative.
@@ -26,7 +26,7 @@ fn atan_size(a: f64) -> f64
 }
 
 // x with the sign that a set or clear sign bit stands for. Std's copysign takes no NaN for the sign, and compares x with 0 first.
-#[tactic(auto, unfolding(float_parts::specs::Signs::with_sign))]
+#[tactic(auto, unfolding(elementary::specs::Signs::with_sign))]
 fn with_sign(negative: bool, x: f64) -> f64
     ensures { result ≡ with_sign negative x }
 {

@@ -2,7 +2,7 @@
 -- root (`rounds_least`), and 0 for all else (`rounds_elsewhere`). `square_rounds` and `no_square_rounds` are what the loop is held to: they
 -- read the rounds off the number of full width. Assumes nothing.
 use mathlib.Core.Path.{◌≡◌, refl, sym, ap, ◌∙◌, subst}
-use mathlib.Core.Logic.{◌⊎◌, inl, inr}
+use mathlib.Core.Logic.{inl, inr}
 use mathlib.Core.Bool.{Bool, true, false, ◌&&◌, cond, true≢false}
 use Prim.Native.Nat.{ℕ, zero, suc, ◌+◌, ◌-◌, ◌*◌, ◌/◌, ◌%◌, ◌^◌, ◌≤◌, ◌<◌}
 use native.Mathlib.Nat.{le_antisymm, le_trans, le_of_eq, lt_of_lt_of_le, lt_of_le_of_lt, lt_irrefl, zero-lt-suc, mul-one, mul-pos, mul-le-mul_left, pow-succ'}
@@ -13,7 +13,6 @@ use lib.Dec.{T, eqb, ltb, leb, eqb→eq, lit<}
 use lib.Pow.{pow-add, pow_pos}
 use lib.Ieee.{Float, nan, inf, fin, binary64, up, down, span, climb, size, fits}
 use lib.Ieee.Digits.{size-lt, size-le}
-use lib.Ieee.Exact.{HasValue}
 use lib.Ieee.Fits.{up_pos, and_l}
 use lib.Ieee.Positive.{positive}
 use Rattle.arithmetic.specs.Rounds.{ExactWith, LeastDigits, exact_digits, sqrt_rounds}

@@ -2,6 +2,9 @@
 // works its answer out, looks at that, and only then writes the empty slots that it used.
 #![tactic(auto)]
 
+mod leave;
+mod projection;
+
 ghost use Rattle.std.specs.Prelude.{◌≡◌, ◌<◌, false};
 ghost use Rattle.answer.specs.Given.{passed, and_then};
 ghost use Rattle.answer.specs.Answer.{given};
@@ -15,8 +18,9 @@ ghost use Rattle.dodecahedron.specs.Work.{finish};
 ghost use Rattle.dodecahedron.specs.Projection.{forward_core, inverse_core};
 ghost use Rattle.dodecahedron.specs.Calls.{forward_given, inverse_given, place_given, unplace_given, forward_on, inverse_on, place_on, unplace_on};
 
+use crate::leave::leave;
+use crate::projection::{forward_core, inverse_core};
 use answer::Refusal;
-use call_ends::leave::leave;
 use coordinates::conversions::{
     check_face, check_lon_lat, check_spherical, finite_face, finite_lon_lat, finite_spherical,
 };
@@ -26,7 +30,6 @@ use coordinates::spherical::Spherical;
 use dodecahedron::place::Place;
 use dodecahedron::work::Work;
 use nearest::origins::Origins;
-use projection_core::{forward_core, inverse_core};
 use set::checks::{check_origin, check_with};
 use set::on_origin::{OnOrigin, SoundOrigin};
 use set::set::{Set, SetRef};

@@ -23,9 +23,9 @@ use Rattle.set.proofs.Lengths.{with_passed, origin_passed, call_passes}
 use Rattle.stores.specs.Used.{used_written, written_if_there}
 use Rattle.stores.specs.declared.used.Used.{Used}
 use Rattle.stores.proofs.Within.{written_there}
-use Rattle.triangles.specs.Taken.{used_for}
-use Rattle.triangles.proofs.Within.{answered_same, used_within}
-use Rattle.triangles.proofs.Uses.{UsedOn, used_on}
+use Rattle.stores.specs.Taken.{used_for}
+use Rattle.stores.proofs.TakenWithin.{answered_same, used_within}
+use Rattle.stores.proofs.Uses.{UsedOn, used_on}
 use Rattle.dodecahedron.specs.Place.{finite_place}
 use Rattle.dodecahedron.specs.Work.{used_of, set_used, set_used_if_there, finish}
 use Rattle.dodecahedron.specs.declared.work.Work.{Work}

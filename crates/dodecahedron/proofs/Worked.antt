@@ -14,9 +14,9 @@ use Rattle.equal_area.specs.EqualArea.{forward, inverse}
 use Rattle.set.specs.Set.{Set}
 use Rattle.set.specs.Checks.{check_call}
 use Rattle.stores.specs.declared.used.Used.{Used}
-use Rattle.triangles.specs.Taken.{face_for, used_for, taken_for}
-use Rattle.triangles.specs.declared.taken.Taken.{Taken}
-use Rattle.triangles.proofs.Within.{answered_same, taken_is}
+use Rattle.stores.specs.Taken.{face_for, used_for, taken_for}
+use Rattle.stores.specs.declared.taken.Taken.{Taken}
+use Rattle.stores.proofs.TakenWithin.{answered_same, taken_is}
 use Rattle.dodecahedron.specs.declared.work.Work.{Work}
 use Rattle.dodecahedron.specs.Projection.{frame_constants, polar_about, forward_core, inverse_core}
 

@@ -16,7 +16,7 @@ use Rattle.origin.specs.declared.utils.Origin.{Origin}
 use Rattle.equal_area.specs.EqualArea.{compute_constants, forward, inverse}
 use Rattle.equal_area.specs.declared.equal_area.TriangleConstants.{TriangleConstants}
 use Rattle.set.specs.Set.{Set}
-use Rattle.triangles.specs.Taken.{face_for, used_for}
+use Rattle.stores.specs.Taken.{face_for, used_for}
 use Rattle.dodecahedron.specs.declared.work.Work.{Work}
 
 -- row k of a frame

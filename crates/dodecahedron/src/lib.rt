@@ -1,5 +1,5 @@
-// The types of what forward and inverse work out on a set, with nothing written, and of place's answer. The work is crate
-// projection_core's, and the calls are those of crate calls.
+// The types of what forward and inverse work out on a set, with nothing written, and of place's answer. The work, in
+// `projection`, and the calls are crate calls.
 #![tactic(auto)]
 
 pub mod place;

@@ -6,7 +6,7 @@ use Rattle.answer.specs.Number.{is_finite}
 use Rattle.arithmetic.specs.Arith.{ieee}
 use Rattle.arithmetic.specs.Numbers.{0·0}
 use Rattle.elementary.specs.Constants.{PI, FRAC_PI_2}
-use Rattle.float_parts.specs.Signs.{abs, negative, with_sign}
+use Rattle.elementary.specs.Signs.{abs, negative, with_sign}
 use Rattle.elementary.specs.Arctangent.{core, atan_size, atan, tangent, atan2_base, atan2}
 
 -- the test of the first passed, so the second decides

@@ -14,7 +14,7 @@ use Rattle.arithmetic.specs.Arith.{ieee}
 use Rattle.arithmetic.proofs.Compared.{eq_values, cut_asks, cut_value}
 use Rattle.arithmetic.proofs.Rounding.{double_exact}
 use Rattle.arithmetic.proofs.Units.{fitting}
-use Rattle.float_parts.specs.Signs.{abs, negative}
+use Rattle.elementary.specs.Signs.{abs, negative}
 use Rattle.elementary.specs.Whole.{floor_size, round_size, floor}
 use Rattle.elementary.specs.Whole.{round as roundAway}
 

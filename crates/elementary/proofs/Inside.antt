@@ -13,8 +13,8 @@ use Rattle.arithmetic.specs.Arith.{ieee}
 use Rattle.arithmetic.specs.Numbers.{1·0}
 use Rattle.arithmetic.proofs.Bounds.{Within, within, clear, own, wider, le_within, neg_within, within_lt, round_within, mul_within, sub_within}
 use Rattle.arithmetic.proofs.Bounded.{Bounded}
-use Rattle.float_parts.specs.Signs.{abs, negative}
-use Rattle.float_parts.proofs.Smaller.{own_remainder}
+use Rattle.elementary.specs.Signs.{abs, negative}
+use Rattle.elementary.proofs.Smaller.{own_remainder}
 use Rattle.elementary.specs.declared.sine.SinCos.{SinCos}
 use Rattle.elementary.specs.Constants.{TAU, FRAC_2_PI, FRAC_PI_2, PI_2_REST, sine_first, sine_rest, cosine_first, cosine_rest}
 use Rattle.elementary.specs.Sine.{beyond, outside, unless_outside, series, modulo4, quarter_turns, whole_float, reduced, sin_cos_reduced, sin_cos_finite, sin_cos}

@@ -6,3 +6,9 @@ pub mod Angles
 pub mod Sizes
 pub mod Inside
 pub mod Values
+pub mod SignBit
+pub mod Digits
+pub mod Lead
+pub mod Smaller
+pub mod RemainderPlaces
+pub mod RemainderValues

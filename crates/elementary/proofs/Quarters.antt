@@ -6,7 +6,7 @@ use lib.Ieee.{Float, nan, inf, fin, binary64, mul, rem, neg, lt, fits}
 use lib.Ieee.Fits.{rem-fits}
 use Rattle.answer.specs.Number.{is_finite}
 use Rattle.arithmetic.specs.Arith.{ieee}
-use Rattle.float_parts.specs.Signs.{abs}
+use Rattle.elementary.specs.Signs.{abs}
 use Rattle.elementary.specs.Constants.{TAU, FRAC_2_PI, sine_first, sine_rest, cosine_first, cosine_rest}
 use Rattle.elementary.specs.Whole.{roundℤ}
 use Rattle.elementary.specs.declared.sine.SinCos.{SinCos}

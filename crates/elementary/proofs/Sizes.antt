@@ -11,7 +11,7 @@ use Rattle.arithmetic.specs.Sqrt.{sqrt}
 use Rattle.arithmetic.proofs.Bounds.{Within, within, sizes, within_finite, clear, own, wider, le_within, neg_within, mul_within, add_within, sub_within, div_within}
 use Rattle.arithmetic.proofs.Bounded.{Bounded, square_clear, add_clear, div_one, one_plus, root_clear}
 use Rattle.arithmetic.proofs.Ieee754.{sqrt_fits}
-use Rattle.float_parts.specs.Signs.{with_sign}
+use Rattle.elementary.specs.Signs.{with_sign}
 use Rattle.elementary.specs.Constants.{PI, FRAC_PI_2, core_first, core_rest}
 use Rattle.elementary.specs.Sine.{series}
 use Rattle.elementary.specs.Arctangent.{halved, core, atan_size, atan, atan2_base, atan2}

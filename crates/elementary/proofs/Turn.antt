@@ -15,8 +15,8 @@ use Rattle.arithmetic.proofs.Product.{mul_most, zero_plus}
 use Rattle.arithmetic.proofs.Remainder.{rem_exact}
 use Rattle.arithmetic.proofs.Rounding.{AtMost, neg_round}
 use Rattle.arithmetic.proofs.Units.{of_value, rise}
-use Rattle.float_parts.specs.Signs.{abs, negative}
-use Rattle.float_parts.proofs.Smaller.{own_remainder}
+use Rattle.elementary.specs.Signs.{abs, negative}
+use Rattle.elementary.proofs.Smaller.{own_remainder}
 use Rattle.elementary.specs.Constants.{TAU, FRAC_2_PI}
 use Rattle.elementary.specs.Sine.{modulo4, whole_float}
 use Rattle.elementary.specs.Whole.{round_size, roundℤ}

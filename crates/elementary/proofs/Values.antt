@@ -10,7 +10,7 @@ use lib.Ieee.Fits.{round-fits}
 use lib.Ieee.Positive.{num, den, den_pos}
 use lib.Ieee.Scale.{finite}
 use Rattle.arithmetic.specs.Arith.{ieee}
-use Rattle.float_parts.specs.Signs.{negative}
+use Rattle.elementary.specs.Signs.{negative}
 use Rattle.elementary.specs.Values.{WholeLike, AtMost, BelowNext, FloorOf, RoundOf}
 use Rattle.elementary.specs.Whole.{floor_size, round_size, floor, round}
 use Rattle.elementary.proofs.Fraction.{fraction_small, floor_whole, floor_part, round_whole, round_part, cut_back, cut_lt, up_whole, up_part, round_back, round_size_le}

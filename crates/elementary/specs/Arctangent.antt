@@ -6,7 +6,7 @@ use Rattle.answer.specs.Number.{is_finite}
 use Rattle.arithmetic.specs.Arith.{Arith}
 use Rattle.arithmetic.specs.Numbers.{0·0, 1·0, 4·0}
 use Rattle.elementary.specs.Constants.{PI, FRAC_PI_2, core_first, core_rest}
-use Rattle.float_parts.specs.Signs.{abs, negative, with_sign}
+use Rattle.elementary.specs.Signs.{abs, negative, with_sign}
 use Rattle.elementary.specs.Sine.{series}
 
 module _ (A : Arith) where

@@ -5,7 +5,7 @@ use Rattle.std.specs.Float.{binary64}
 use Rattle.std.specs.Float.Ieee.{fits}
 use Rattle.std.specs.Float.Ieee.Scale.{finite}
 use Rattle.std.specs.Float.Ieee.Positive.{num, den}
-use Rattle.float_parts.specs.Signs.{negative}
+use Rattle.elementary.specs.Signs.{negative}
 
 -- a whole number of the format, with x's sign
 pub record WholeLike (x r : Float) : Type 0 where

@@ -4,7 +4,7 @@ ghost use Rattle.std.specs.Float.{fin};
 ghost use Rattle.std.specs.Float.Ieee.{lt};
 ghost use Rattle.std.specs.Float.Ieee.Positive.{num, den};
 ghost use Rattle.arithmetic.specs.Arith.{ieee};
-ghost use Rattle.float_parts.specs.Signs.{negative};
+ghost use Rattle.elementary.specs.Signs.{negative};
 ghost use Rattle.elementary.specs.Whole.{round_size, floor, round};
 
 // 2^52: no value from here on has a fraction.
@@ -14,7 +14,7 @@ const LARGE: f64 = 4503599627370496.0;
 pub fn floor(x: f64) -> f64
     ensures { result ≡ floor ieee x }
 {
-    let a = float_parts::signs::abs(x);
+    let a = crate::signs::abs(x);
     if !(a < LARGE) {
         return x;
     }
@@ -39,7 +39,7 @@ pub fn nearest_size(a: f64) -> u64
 pub fn round(x: f64) -> f64
     ensures { result ≡ round ieee x }
 {
-    let a = float_parts::signs::abs(x);
+    let a = crate::signs::abs(x);
     if !(a < LARGE) {
         return x;
     }

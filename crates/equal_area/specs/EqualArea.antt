@@ -4,7 +4,7 @@ use Rattle.std.specs.Float.{binary64}
 use Rattle.std.specs.Float.Ieee.{of_bits, neg, lt}
 use Rattle.arithmetic.specs.Arith.{Arith}
 use Rattle.arithmetic.specs.Numbers.{0·0, 1·0}
-use Rattle.float_parts.specs.Signs.{abs, max_zero}
+use Rattle.elementary.specs.Signs.{abs, max_zero}
 use Rattle.answer.specs.Given.{Given, answered, bind}
 use Rattle.elementary.specs.Sine.{sin_cos_given}
 use Rattle.elementary.specs.declared.sine.SinCos.{SinCos}

@@ -9,8 +9,8 @@ ghost use Rattle.equal_area.specs.EqualArea.{is_odd, point_p, between, at_angle,
 
 use answer::Refusal;
 use coordinates::coords::{Barycentric, Cartesian, Face, FaceTriangle, SphericalTriangle};
+use elementary::signs::abs;
 use elementary::sine::SinCos;
-use float_parts::signs::{abs, max_zero};
 use sine::sin_cos;
 use square_root::root::sqrt;
 use transforms::plane::face_to_barycentric;

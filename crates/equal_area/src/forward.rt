@@ -7,7 +7,7 @@ ghost use Rattle.equal_area.specs.EqualArea.{compute_constants, one_over, forwar
 use crate::equal_area::{AlphaTransform, TriangleConstants};
 use crate::spherical_polygon::{spherical_triangle_area, spherical_triangle_area_and_sqrt};
 use coordinates::coords::{Barycentric, Cartesian, Face, FaceTriangle, SphericalTriangle};
-use float_parts::signs::max_zero;
+use elementary::signs::max_zero;
 use transforms::plane::barycentric_to_face;
 use transforms::vector::{cross, dot, length, scale, scale_and_add};
 

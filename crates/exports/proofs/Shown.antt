@@ -8,8 +8,8 @@ use lib.ListN.{get_or}
 use lib.Ieee.{Float}
 use Rattle.answer.specs.Given.{answered}
 use Rattle.stores.specs.Slots.{run}
-use Rattle.show.specs.Show.{named, slot_given, part_shown, place_in, place_shown}
-use Rattle.show.specs.declared.StoreKind.{StoreKind}
+use Rattle.stores.specs.Show.{named, slot_given, part_shown, place_in, place_shown}
+use Rattle.stores.specs.declared.show.StoreKind.{StoreKind}
 use Rattle.border.specs.Returns.{written}
 use Rattle.exports.specs.Slots as slots
 

@@ -1,8 +1,8 @@
 -- Show and its companion as C functions: what they leave for a slot that is filled or empty. Definitions only.
 use Rattle.std.specs.Prelude.{ℕ, ◌+◌, ◌*◌, Bool, cond, List, [], ◌∷◌, eqb}
-use Rattle.show.specs.Show.{width_in, coordinates_in}
-use Rattle.show.specs.declared.StoreKind.{StoreKind}
-use Rattle.show.specs.declared.StoreKind.TheVariants as kind
+use Rattle.stores.specs.Show.{width_in, coordinates_in}
+use Rattle.stores.specs.declared.show.StoreKind.{StoreKind}
+use Rattle.stores.specs.declared.show.StoreKind.TheVariants as kind
 
 -- the store that a number names: the face store by 0, and the sphere store by every other
 unfoldable pub store_named : ℕ → StoreKind

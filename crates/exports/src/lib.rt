@@ -16,7 +16,7 @@ ghost use Rattle.std.specs.Prelude.{◌≡◌};
 ghost use Rattle.arithmetic.specs.Arith.{ieee};
 ghost use Rattle.coordinates.specs.Conversions.{from_lon_lat_given, to_lon_lat_given};
 ghost use Rattle.origin.specs.Origins.{ORIGINS};
-ghost use Rattle.nearest_calls.specs.Calls.{nearest_given};
+ghost use Rattle.nearest.specs.Calls.{nearest_given};
 ghost use Rattle.set.specs.Outcome.{lent_mut, Becomes};
 ghost use Rattle.set.specs.Open.{open_on};
 ghost use Rattle.answer.specs.Given.{status};
@@ -34,7 +34,7 @@ pub extern "C" fn a5_open(frame: &mut [f64], face_store: &mut [f64], sphere_stor
     ensures answer { result ≡ status (open_on ieee ORIGINS (lent_mut frame face_store sphere_store).entry).answer }
     ensures left { Becomes (lent_mut frame face_store sphere_store) (λ s. (open_on ieee ORIGINS s).set) }
 {
-    let opened = open_calls::open(BuiltIn, frame, face_store, sphere_store);
+    let opened = set::open::open(BuiltIn, frame, face_store, sphere_store);
     answer::status(opened)
 }
 
@@ -43,7 +43,7 @@ pub extern "C" fn a5_open(frame: &mut [f64], face_store: &mut [f64], sphere_stor
 pub extern "C" fn a5_nearest(theta: f64, phi: f64, id: &mut u8) -> u8
     ensures { Returns (nearest_given ieee ORIGINS (spherical theta phi)) result (contents id) Calls·id }
 {
-    let nearest = nearest_calls::nearest(BuiltIn, arguments::spherical(theta, phi));
+    let nearest = nearest::call::nearest(BuiltIn, arguments::spherical(theta, phi));
     put(nearest, id)
 }
 

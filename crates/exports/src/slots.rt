@@ -2,14 +2,14 @@
 ghost use Rattle.std.specs.Prelude.{◌≡◌};
 ghost use Rattle.answer.specs.Given.{bind, answered};
 ghost use Rattle.answer.specs.Answer.{given};
-ghost use Rattle.show.specs.Show.{slot_given};
+ghost use Rattle.stores.specs.Show.{slot_given};
 ghost use Rattle.border.specs.Calls.{mark};
 ghost use Rattle.border.specs.Returns.{Returns, contents};
 ghost use Rattle.exports.specs.Slots.{store_named, part as Slots·part};
 
 use answer::Refusal;
 use border::answers::put;
-use show::{StoreKind, slot_state};
+use stores::show::{StoreKind, slot_state};
 
 // 0 names the face store and every other number the sphere store, as C reads a truth value:
 // document 01 has no refusal for a kind that is neither. No `From<u8>` of StoreKind: it would stand in show,

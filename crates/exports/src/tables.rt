@@ -3,7 +3,7 @@
 // table: its interface is fixed.
 ghost use Rattle.std.specs.Prelude.{◌≡◌};
 ghost use Rattle.arithmetic.specs.Arith.{ieee};
-ghost use Rattle.nearest_calls.specs.Calls.{nearest_given};
+ghost use Rattle.nearest.specs.Calls.{nearest_given};
 ghost use Rattle.set.specs.Outcome.{lent_mut, Becomes};
 ghost use Rattle.set.specs.Open.{open_on};
 ghost use Rattle.answer.specs.Given.{status};
@@ -30,7 +30,7 @@ pub extern "C" fn a5_open_with(
         Ok(rows) => rows,
         Err(refusal) => return refusal.number(),
     };
-    let opened = open_calls::open(rows, frame, face_store, sphere_store);
+    let opened = set::open::open(rows, frame, face_store, sphere_store);
     answer::status(opened)
 }
 
@@ -43,6 +43,6 @@ pub extern "C" fn a5_nearest_with(table: &[f64], theta: f64, phi: f64, id: &mut 
         Ok(rows) => rows,
         Err(refusal) => return refusal.number(),
     };
-    let nearest = nearest_calls::nearest(rows, arguments::spherical(theta, phi));
+    let nearest = nearest::call::nearest(rows, arguments::spherical(theta, phi));
     put(nearest, id)
 }

@@ -8,7 +8,7 @@ ghost use Rattle.arithmetic.specs.Arith.{ieee};
 ghost use Rattle.elementary.specs.Sine.{sin_given};
 ghost use Rattle.exports_elementary.specs.Value.{value_or_nan};
 
-use remainder::remainder;
+use elementary::remainder::remainder;
 use sine::sin;
 
 // The sine, and a NaN where the angle is outside.

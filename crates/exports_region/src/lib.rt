@@ -16,8 +16,8 @@ use border::rows::rows;
 use caption_box::CaptionBox;
 use coordinates::coords::Face;
 use coordinates::lonlat::LonLat;
+use list_calls::region::region;
 use nearest::origins::{BuiltIn, Origins};
-use region::region;
 use region_border::put_region;
 use set::set::Set;
 

@@ -1,5 +1,4 @@
 // The sheet of Paper 13 as a C function. The page is a pointer and how many bytes there are, as every slice.
-ghost use Rattle.std.specs.Prelude.{◌≡◌};
 ghost use Rattle.exports_tools.specs.Sheets.{SheetFor};
 
 use window::Window;

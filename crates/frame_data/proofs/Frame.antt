@@ -20,7 +20,7 @@ use Rattle.crs.specs.Candidates.{around, face_center, vertex, midpoint, candidat
 use Rattle.crs.specs.Frame.{TOLERANCE, near, find_vertex, add_row, add_rows, frame_rows}
 use Rattle.frame_data.proofs.Split.{add_rows_split}
 use Rattle.frame_data.specs.Claims.{FrameIs}
-use Rattle.frame_data.specs.Rows.{CENTRES, VERTICES, MIDPOINTS, ROWS}
+use Rattle.frame_data.specs.Rows.{CENTRES, VERTICES, ROWS}
 
 -- ---- what is opened to compute: who unfolds a name unfolds the names on its line
 

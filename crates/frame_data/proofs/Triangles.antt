@@ -18,7 +18,7 @@ use Rattle.origin.specs.declared.utils.Origin.{Origin}
 use Rattle.tiling.specs.FaceTriangles.{midpoint, half_of, get_base_face_triangle, squashed_scale, scale_of, beyond, reflected_of, get_reflected_face_triangle, face_triangle}
 use Rattle.tiling.specs.Tiling.{get_quintant_vertices}
 use Rattle.stores.specs.Slots.{source_slot}
-use Rattle.triangles.specs.Triangles.{corner_vertex, sphere_built}
+use Rattle.stores.specs.Triangles.{corner_vertex, sphere_built}
 use Rattle.frame_data.specs.Rows.{ROWS}
 use Rattle.frame_data.specs.Claims.{Answers, AllBuilt}
 use Rattle.frame_data.proofs.Every.{every, every_at}

@@ -6,7 +6,7 @@ use Rattle.origin.specs.Origins.{ORIGINS, origin_at}
 use Rattle.tiling.specs.FaceTriangles.{face_triangle}
 use Rattle.crs.specs.Frame.{frame_rows}
 use Rattle.stores.specs.Slots.{source_slot}
-use Rattle.triangles.specs.Triangles.{sphere_built}
+use Rattle.stores.specs.Triangles.{sphere_built}
 use Rattle.frame_data.specs.Rows.{ROWS}
 
 -- there is an answer

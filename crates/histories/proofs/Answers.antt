@@ -33,8 +33,8 @@ use Rattle.set.proofs.Lengths.{origin_passed}
 use Rattle.stores.specs.Slots.{face_slot, sphere_slot}
 use Rattle.stores.proofs.Within.{sphere_below}
 use Rattle.stores.specs.declared.used.Used.{Used}
-use Rattle.triangles.specs.Triangles.{cross_taken}
-use Rattle.triangles.specs.Taken.{face_for, used_for}
+use Rattle.stores.specs.Triangles.{cross_taken}
+use Rattle.stores.specs.Taken.{face_for, used_for}
 use Rattle.dodecahedron.specs.Place.{finite_place}
 use Rattle.dodecahedron.specs.Work.{finish}
 use Rattle.dodecahedron.specs.declared.work.Work.{Work}

@@ -25,11 +25,11 @@ use Rattle.set.specs.Open.{open_given}
 use Rattle.dodecahedron.specs.declared.place.Place.{Place}
 use Rattle.stores.specs.declared.used.Used.{Used}
 use Rattle.set.proofs.Opening.{open_opened}
-use Rattle.show.specs.declared.StoreKind.TheVariants as kind
+use Rattle.stores.specs.declared.show.StoreKind.TheVariants as kind
 use Rattle.set.specs.Set.{Set, check_set}
 use Rattle.dodecahedron.specs.Work.{used_of}
 use Rattle.dodecahedron.specs.declared.work.Work.{Work}
-use Rattle.dodecahedron.specs.Calls.{place_given, unplace_given}
+use Rattle.dodecahedron.specs.Calls.{place_given}
 use Rattle.histories.specs.Lists.{Standing, standing, Call, opens, forwards, inverses, places, unplaces, lists, regions, steps, shows, asks}
 use Rattle.histories.specs.Lists.{Effect, writes, uses, reads, alone, effect, table_opened, after, step, run}
 use Rattle.histories.specs.Since.{faces_at}

@@ -11,7 +11,7 @@ use Rattle.origin.specs.Table.{check_table}
 use Rattle.set.specs.Set.{Set}
 use Rattle.dodecahedron.specs.Work.{answer_of}
 use Rattle.panel.specs.Registers.{check_block, placed, unplaced}
-use Rattle.panel.specs.Step.{Panel, panel, block_by, command_in, carried_out, check_step, unless_refused, step_on}
+use Rattle.panel.specs.Step.{panel, block_by, command_in, carried_out, check_step, unless_refused, step_on}
 use Rattle.strike_records.specs.declared.record.Request.{Request}
 use Rattle.strike_records.specs.declared.record.Request.TheVariants as request
 use Rattle.histories.proofs.Told.{Since}

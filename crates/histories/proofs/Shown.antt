@@ -16,9 +16,9 @@ use Rattle.set.specs.Sizes.{FACE_SLOTS, FACE_COORDINATES, FACE_WIDTH, FACE_STORE
 use Rattle.set.specs.Sizes.{SPHERE_SLOTS, SPHERE_COORDINATES, SPHERE_WIDTH, SPHERE_STORE}
 use Rattle.stores.specs.Slots as slots
 use Rattle.stores.specs.Slots.{filled, face_run, triangle_run}
-use Rattle.show.specs.Show.{named, slots_in, width_in, coordinates_in, slot_given, where_filled, part_shown}
-use Rattle.show.specs.declared.StoreKind.{StoreKind}
-use Rattle.show.specs.declared.StoreKind.TheVariants as kind
+use Rattle.stores.specs.Show.{named, slots_in, width_in, coordinates_in, slot_given, where_filled, part_shown}
+use Rattle.stores.specs.declared.show.StoreKind.{StoreKind}
+use Rattle.stores.specs.declared.show.StoreKind.TheVariants as kind
 use Rattle.set.specs.Set.{Set}
 use Rattle.set.specs.Open.{open_given}
 use Rattle.histories.specs.Lists.{Call}

@@ -17,7 +17,7 @@ use Rattle.origin.specs.Table.{numbers_sound}
 use Rattle.origin.proofs.Sizes.{sound_small, small_axis, small_angle}
 use Rattle.tiling.proofs.Sizes.{normalized_inside, figure_turn, figure_up, figure_down, figure_constants, quintant_inside}
 use Rattle.crs.proofs.Sizes.{around_inside}
-use Rattle.triangles.proofs.Sizes.{corner_inside}
+use Rattle.stores.proofs.CornerAngles.{corner_inside}
 use Rattle.dodecahedron.proofs.Sizes.{inverse_colatitude}
 use Rattle.histories.specs.SineArguments.{InsideBoth, InsideHaversine, SineArguments}
 

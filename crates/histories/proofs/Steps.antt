@@ -7,7 +7,7 @@ use native.Mathlib.Omega.{arith}
 use lib.Dec.{eqb}
 use lib.ListN.{length}
 use lib.Ieee.{Float}
-use Rattle.answer.specs.Given.{Given, answered, refused}
+use Rattle.answer.specs.Given.{answered, refused}
 use Rattle.arithmetic.specs.Arith.{ieee}
 use Rattle.coordinates.specs.Vector.{cross}
 use Rattle.coordinates.specs.declared.coords.Cartesian.{Cartesian}

@@ -25,7 +25,7 @@ use Rattle.stores.specs.Slots.{run, filled, face_run, face_in, sphere_run, spher
 use Rattle.stores.specs.Slots.{source_slot, sphere_slot}
 use Rattle.stores.proofs.Within.{sphere_below}
 use Rattle.set.specs.Open.{new_set}
-use Rattle.triangles.specs.Triangles.{face_taken, sphere_built, sphere_taken, cross_taken}
+use Rattle.stores.specs.Triangles.{face_taken, sphere_built, sphere_taken, cross_taken}
 use Rattle.set.specs.Set.{Set}
 use Rattle.histories.specs.Lists.{standing}
 use Rattle.histories.specs.Defined.{sphere_defined, slot_at}

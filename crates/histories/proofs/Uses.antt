@@ -23,9 +23,9 @@ use Rattle.set.specs.Checks.{check_origin, check_with}
 use Rattle.set.proofs.Lengths.{Fits, with_passed, origin_passed}
 use Rattle.stores.specs.Used.{used_written}
 use Rattle.stores.specs.declared.used.Used.{Used}
-use Rattle.triangles.specs.Taken.{used_for}
-use Rattle.triangles.proofs.Within.{answered_same}
-use Rattle.triangles.proofs.Uses as any
+use Rattle.stores.specs.Taken.{used_for}
+use Rattle.stores.proofs.TakenWithin.{answered_same}
+use Rattle.stores.proofs.Uses as any
 use Rattle.dodecahedron.specs.Place.{finite_place}
 use Rattle.dodecahedron.specs.Work.{used_of, set_used, finish}
 use Rattle.dodecahedron.specs.declared.work.Work.{Work}

@@ -1,6 +1,6 @@
 -- Demand 3 for the built-in table, as it was before tables could be brought: every open of the list is one without a table, which is
 -- open with the built-in one. Definitions only.
-use Rattle.std.specs.Prelude.{◌≡◌, List, [], ◌∷◌, Float}
+use Rattle.std.specs.Prelude.{◌≡◌, List, [], ◌∷◌}
 use Rattle.answer.specs.Given.{passed}
 use Rattle.arithmetic.specs.Arith.{ieee}
 use Rattle.origin.specs.Origins.{ORIGINS}

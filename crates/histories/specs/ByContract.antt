@@ -11,7 +11,7 @@ use Rattle.place_list.specs.Lists.{place_list_on}
 use Rattle.place_list.specs.declared.PlaceResult.{PlaceResult}
 use Rattle.region_work.specs.Region.{region_on}
 use Rattle.panel.specs.Step.{step_on}
-use Rattle.show.specs.declared.StoreKind.{StoreKind}
+use Rattle.stores.specs.declared.show.StoreKind.{StoreKind}
 use Rattle.histories.specs.Lists.{Standing, opens, forwards, inverses, places, unplaces, lists, regions, steps, shows, asks, step}
 
 -- on the set of s, with the table that calls take there

@@ -4,7 +4,7 @@ use Rattle.answer.specs.Given.{answered, refused}
 use Rattle.set.specs.Set.{Set}
 use Rattle.set.specs.Sizes.{FACE_SLOTS, FACE_WIDTH, SPHERE_SLOTS, SPHERE_WIDTH}
 use Rattle.stores.specs.Slots.{filled}
-use Rattle.histories.specs.Lists.{Effect, writes, uses, reads, effect}
+use Rattle.histories.specs.Lists.{Effect, writes, uses, reads}
 use Rattle.histories.specs.Since.{Slots}
 
 -- how many of the slots 0 .. n - 1 are among some

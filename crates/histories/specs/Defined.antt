@@ -11,7 +11,7 @@ use Rattle.origin.specs.Origins.{origin_at}
 use Rattle.tiling.specs.FaceTriangles.{face_triangle}
 use Rattle.stores.specs.Slots as slots
 use Rattle.stores.specs.Slots.{source_slot}
-use Rattle.triangles.specs.Triangles.{sphere_built}
+use Rattle.stores.specs.Triangles.{sphere_built}
 
 -- sphere slot k, which is 10·origin + index, plus 120 if reflected; refused with 8 where a vertex has no row in the frame
 unfoldable pub sphere_defined : List Float → List Float → ℕ → Given SphericalTriangle

@@ -19,7 +19,7 @@ use Rattle.place_list.specs.Lists.{place_list_on}
 use Rattle.place_list.specs.declared.PlaceResult.{PlaceResult}
 use Rattle.region_work.specs.Region.{region_on}
 use Rattle.panel.specs.Step.{step_on}
-use Rattle.show.specs.declared.StoreKind.{StoreKind}
+use Rattle.stores.specs.declared.show.StoreKind.{StoreKind}
 use Rattle.histories.specs.Lists.{Standing, standing, Call, opens, shows, asks, Effect, effect, after, step, run}
 use Rattle.histories.specs.Since.{faces_used, spheres_used, UsedLast, last_opened}
 use Rattle.histories.specs.Defined.{slot_at, sphere_defined}

@@ -17,7 +17,7 @@ use Rattle.region_work.specs.Uses.{used_by_region}
 use Rattle.histories.specs.Panel.{used_by_step}
 use Rattle.stores.specs.Used.{all_written}
 use Rattle.stores.specs.declared.used.Used.{Used}
-use Rattle.show.specs.declared.StoreKind.{StoreKind}
+use Rattle.stores.specs.declared.show.StoreKind.{StoreKind}
 
 -- where a list stands: the set, and the table that calls take
 pub record Standing : Type 0 where

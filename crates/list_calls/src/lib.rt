@@ -1,7 +1,15 @@
 // Radar lists in one go (document 02, Paper 1): the call `place_list`, with the built-in table or one that is handed over. Every
-// position of a list is placed, from first to last, and its result filled. The work is done by functions on one position and on
-// lengths; `place_list`, which is lent the positions and the results, is a thin loop over them. Crate place_list has the definitions.
+// position of a list is placed, from first to last, and its result filled. Functions on one position and on
+// lengths do it; `place_list`, which is lent the positions and the results, is a thin loop over them. Crate place_list has the definitions.
+// And the other call on positions, `region::region` (Paper 4), with `work`, `survey` and `copies` beneath it; its definitions are crate
+// region_work's.
 #![tactic(auto)]
+
+mod copies;
+pub mod region;
+mod results;
+mod survey;
+mod work;
 
 ghost use Rattle.std.specs.Prelude.{◌≡◌};
 ghost use Rattle.answer.specs.Answer.{given};
@@ -9,9 +17,9 @@ ghost use Rattle.arithmetic.specs.Arith.{ieee};
 ghost use Rattle.set.specs.Lent.{seen, held, SameBuffers};
 ghost use Rattle.place_list.specs.Lists.{step, placed_one, check_list, called, place_list_on};
 
+use crate::results::{check_counts, result};
 use answer::Refusal;
 use coordinates::lonlat::LonLat;
-use list_parts::{check_counts, result};
 use nearest::origins::Origins;
 use place_list::PlaceResult;
 use set::checks::check_with;

@@ -1,5 +1,5 @@
-// The origin nearest to a point: of the built-in table, or of another. The calls, with their checks,
-// are crate `nearest_calls`. That a point's angles are not outside is asked by each function and is no type's: a type of such points
+// The origin nearest to a point: of the built-in table, or of another. The call, with its checks,
+// is `call::nearest`. That a point's angles are not outside is asked by each function and is no type's: a type of such points
 // would be built and taken apart beside `Spherical`, in each caller, by the proof that the clause asks.
 #![tactic(auto)]
 
@@ -12,6 +12,7 @@ ghost use Rattle.coordinates.specs.Constants.{2·0};
 ghost use Rattle.origin.specs.Origins.{ORIGINS};
 ghost use Rattle.nearest.specs.Nearest.{least, haversine, haversines};
 
+pub mod call;
 pub mod origins;
 
 use coordinates::spherical::Spherical;

@@ -1,13 +1,13 @@
 -- The newly opened set of the built-in table: it fits, none of its slots is filled, and every sphere triangle is built
 -- from its frame. So forward, inverse, place and unplace are refused there only for their own numbers and for their
 -- answers. Assumes nothing.
-use mathlib.Core.Path.{◌≡◌, refl, ap, subst, sym, ◌∙◌}
-use mathlib.Core.Bool.{Bool, true, false}
+use mathlib.Core.Path.{◌≡◌, refl, ap, ◌∙◌}
+use mathlib.Core.Bool.{true, false}
 use mathlib.Core.List.{List}
 use Prim.Native.Nat.{ℕ, zero, suc, ◌*◌, ◌<◌}
 use lib.ListN.{length, replicate, length-replicate}
 use lib.Ieee.{eq}
-use Rattle.answer.specs.Given.{Given, passed}
+use Rattle.answer.specs.Given.{passed}
 use Rattle.arithmetic.specs.Arith.{ieee}
 use Rattle.arithmetic.specs.Numbers.{0·0}
 use Rattle.coordinates.specs.CoordinateTransforms.{to_polar, from_lon_lat, to_lon_lat}
@@ -28,8 +28,8 @@ use Rattle.set.specs.Set.{Set, check_set}
 use Rattle.set.specs.Open.{new_set}
 use Rattle.set.proofs.Lengths.{Fits, set_passes, origin_passed}
 use Rattle.stores.specs.Slots.{filled, source_slot, sphere_slot}
-use Rattle.triangles.specs.Triangles.{face_taken, sphere_taken, sphere_built, cross_taken}
-use Rattle.triangles.specs.Taken.{used_for}
+use Rattle.stores.specs.Triangles.{face_taken, sphere_taken, sphere_built, cross_taken}
+use Rattle.stores.specs.Taken.{used_for}
 use Rattle.dodecahedron.specs.Projection.{forward_core, inverse_core}
 use Rattle.dodecahedron.specs.Calls.{forward_given, inverse_given, place_given, unplace_given}
 use Rattle.frame_data.specs.Rows.{ROWS}

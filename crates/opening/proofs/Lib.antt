@@ -4,3 +4,4 @@ pub mod Fresh
 pub mod Lists
 pub mod Theorem
 pub mod Consequences
+pub mod Strike

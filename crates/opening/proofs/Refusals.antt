@@ -1,5 +1,5 @@
 -- What a chain of checks and calls may be refused with, part by part; and the numbers of each check. Assumes nothing.
-use mathlib.Core.Path.{◌≡◌, refl, sym, ap, subst, ◌∙◌}
+use mathlib.Core.Path.{◌≡◌, refl, sym, ap, subst}
 use mathlib.Core.Bool.{Bool, true, false, not, ◌&&◌, ◌||◌, true≢false}
 use mathlib.Core.List.{List, [], ◌∷◌}
 use Prim.Native.Nat.{ℕ}
@@ -13,7 +13,6 @@ use Rattle.answer.proofs.Given.{refused_answers_nothing}
 use Rattle.arithmetic.specs.Arith.{Arith}
 use Rattle.arithmetic.specs.Numbers.{1·0}
 use Rattle.elementary.specs.Sine.{outside, unless_outside, sin_cos_given}
-use Rattle.elementary.specs.declared.sine.SinCos.{SinCos}
 use Rattle.coordinates.specs.CoordinateTransforms.{face_to_barycentric}
 use Rattle.coordinates.specs.Conversions.{check_lon_lat, check_spherical, check_face, finite_spherical, finite_lon_lat, finite_face}
 use Rattle.coordinates.specs.declared.coords.Barycentric.{Barycentric}

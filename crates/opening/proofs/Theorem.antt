@@ -18,8 +18,6 @@ use Rattle.set.specs.Checks.{check_with}
 use Rattle.set.proofs.Lengths.{set_passes}
 use Rattle.set.specs.Open.{open_given}
 use Rattle.set.proofs.Opening.{open_opened, built_in_check}
-use Rattle.stores.specs.Used.{used_written, all_written}
-use Rattle.stores.specs.declared.used.Used.{Used}
 use Rattle.dodecahedron.specs.Calls.{forward_given, inverse_given, place_given, unplace_given}
 use Rattle.histories.specs.Lists.{Standing, standing, Call, opens, forwards, inverses, places, unplaces, lists, regions, shows, asks, Effect, writes, uses, reads, effect, after, step, run, steps}
 use Rattle.panel.specs.Step.{check_step}

@@ -1,7 +1,7 @@
 -- What the check of a table comes to: by whether its numbers are sound and its quaternions unit, and back from a check that passed. Assumes
 -- nothing.
-use mathlib.Core.Path.{◌≡◌, refl, sym}
-use mathlib.Core.Bool.{Bool, true, false, not}
+use mathlib.Core.Path.{◌≡◌}
+use mathlib.Core.Bool.{true, false, not}
 use mathlib.Core.List.{List}
 use lib.Ieee.{Float}
 use Rattle.std.proofs.lemmas.Bool.{not-false}

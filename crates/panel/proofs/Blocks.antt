@@ -6,8 +6,8 @@ use native.Mathlib.Omega.{arith}
 use lib.Ieee.{Float}
 use lib.ListN.{length, get_or, set, take, drop, length-append, length-drop, length-set, get_or-append}
 use lib.Seq.{length-take-le, get_or-take, get_or-set_same, get_or-set_other}
-use Rattle.big_endian.specs.BigEndian.{double_bytes}
-use Rattle.big_endian.proofs.Bytes.{length_double}
+use Rattle.answer.specs.BigEndian.{double_bytes}
+use Rattle.answer.proofs.Bytes.{length_double}
 use Rattle.panel.specs.Registers.{BLOCK, COMMAND, STATUS, MASK, INTERRUPT, REFUSAL, FIRST, SECOND, interrupt, ended, with_double}
 
 -- ---- a double

@@ -4,7 +4,7 @@ use Rattle.std.specs.Prelude.{ℕ, ◌+◌, ◌/◌, ◌%◌, Bool, cond, ◌&&�
 use Rattle.answer.specs.Given.{Given, passed, refuse_if}
 use Rattle.coordinates.specs.declared.lonlat.LonLat.{LonLat}
 use Rattle.dodecahedron.specs.declared.place.Place.{Place}
-use Rattle.big_endian.specs.BigEndian.{double_bytes}
+use Rattle.answer.specs.BigEndian.{double_bytes}
 
 abbrev pub BLOCK : ℕ
 BLOCK = 32

@@ -1,4 +1,4 @@
-// The caption panel: its block of registers. The registers are read and written by crate panel_registers; the step is crate panel_step's.
+// The caption panel: its block of registers. Crate panel_step reads and writes the registers, and has the step.
 #![tactic(auto)]
 
 pub mod registers;

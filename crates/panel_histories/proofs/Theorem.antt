@@ -22,7 +22,7 @@ use Rattle.set.proofs.Lengths.{Fits, set_passes}
 use Rattle.strike_records.specs.Record.{lon_lat_in, face_in}
 use Rattle.strike_records.specs.declared.record.Request.{Request}
 use Rattle.strike_records.specs.declared.record.Request.TheVariants as request
-use Rattle.panel.specs.Registers.{BLOCK, COMMAND, ORIGIN, INPUTS, check_block, placed, unplaced}
+use Rattle.panel.specs.Registers.{BLOCK, COMMAND, ORIGIN, INPUTS, check_block}
 use Rattle.panel.specs.Step.{command_in, carried_out, check_step, unless_refused, panel, step_on}
 use Rattle.histories.specs.Lists.{Standing, standing, Call, step}
 use Rattle.histories.specs.Lists as lists
@@ -31,7 +31,7 @@ use Rattle.histories.proofs.Left.{step_left}
 use Rattle.histories.proofs.Theorem.{every_list}
 use Rattle.opening.proofs.Lists.{left_then}
 use Rattle.panel_histories.specs.Events.{Event, host_writes, steps, calls, State, state, next}
-use Rattle.panel_histories.specs.EveryPanel.{AsNew, Ends, EachEnds, EveryPanel}
+use Rattle.panel_histories.specs.EveryPanel.{AsNew, EachEnds, EveryPanel}
 
 -- ---- the command of a block
 place_asked : (b : List ℕ) → get_or b COMMAND 0 ≡ 1 → command_in ieee b ≡ answered (Some (request.Place (lon_lat_in ieee b INPUTS)))

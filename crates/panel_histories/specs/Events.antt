@@ -1,6 +1,6 @@
 -- Document 02, Paper 11: lists "of host writes and steps on a set first opened with success and written only by our calls", other calls
 -- among them. A step is lent the block and the set as they stand, and leaves what its contract has. Definitions only.
-use Rattle.std.specs.Prelude.{ℕ, List, [], ◌∷◌}
+use Rattle.std.specs.Prelude.{ℕ, List}
 use Rattle.arithmetic.specs.Arith.{ieee}
 use Rattle.panel.specs.Step.{Panel, step_on}
 use Rattle.histories.specs.Lists.{Standing, standing, Call, step}

@@ -1,5 +1,7 @@
-// A step of the panel on a set, with the built-in table or one that is handed over.
+// A step of the panel on a set, with the built-in table or one that is handed over; the registers are `registers`.
 #![tactic(auto)]
+
+mod registers;
 
 ghost use Rattle.std.specs.Prelude.{Some};
 ghost use Rattle.answer.specs.Given.{answered};
@@ -10,13 +12,13 @@ ghost use Rattle.strike_records.specs.Writes.{lent_bytes};
 ghost use Rattle.panel.specs.Step.{command_in, carried_out, step_on};
 ghost use Rattle.panel.specs.Results.{Carries, Steps};
 
+use crate::registers::{asked, write_interrupt, write_lon_lat, write_place, write_refusal};
 use answer::Refusal;
 use calls::{place, unplace};
 use coordinates::coords::Face;
 use coordinates::lonlat::LonLat;
 use nearest::origins::Origins;
 use panel::registers::BLOCK;
-use panel_registers::{asked, write_interrupt, write_lon_lat, write_place, write_refusal};
 use set::checks::check_with;
 use set::set::Set;
 use strike_records::record::Request;

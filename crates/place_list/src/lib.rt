@@ -1,5 +1,5 @@
 // Radar lists in one go (document 02, Paper 1): what is given for a position, with the definitions of the call and what holds of
-// them. Every position of a list is placed, from first to last, and its result filled. Crates list_parts and list_calls have the
+// them. Every position of a list is placed, from first to last, and its result filled. Crate list_calls has the
 // functions.
 #![tactic(auto)]
 

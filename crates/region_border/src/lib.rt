@@ -2,7 +2,6 @@
 // exports_region has the C functions.
 #![tactic(auto)]
 
-ghost use Rattle.std.specs.Prelude.{◌≡◌};
 ghost use Rattle.answer.specs.Answer.{given};
 ghost use Rattle.border.specs.Returns.{Returns, contents_of};
 ghost use Rattle.region_border.specs.Regions.{origin_and_box};

@@ -2,7 +2,7 @@
 -- and its set are those of the list of the same positions; and a region of one position is place. They hold for every arithmetic, every
 -- table and every set, whatever it holds. Assumes nothing.
 use mathlib.Core.Path.{◌≡◌, refl, sym, ap, ◌∙◌}
-use mathlib.Core.Bool.{Bool, true, false, not, ◌&&◌, true≢false}
+use mathlib.Core.Bool.{true, not}
 use mathlib.Core.List.{List, [], ◌∷◌}
 use Prim.Native.Nat.{ℕ, zero, suc, ◌<◌}
 use native.Mathlib.Nat.{not-suc-le-zero, le_of_suc-le-suc}
@@ -18,7 +18,7 @@ use Rattle.coordinates.specs.declared.coords.Face.{Face}
 use Rattle.coordinates.specs.declared.lonlat.LonLat.{LonLat}
 use Rattle.set.specs.Set.{Set}
 use Rattle.set.specs.Checks.{check_with}
-use Rattle.triangles.proofs.Within.{answered_same}
+use Rattle.stores.proofs.TakenWithin.{answered_same}
 use Rattle.dodecahedron.specs.Calls.{place_on}
 use Rattle.dodecahedron.specs.declared.place.Place.{Place}
 use Rattle.place_list.specs.Lists.{placed_one, placed_in_turn, check_counts, check_list, place_list_on}

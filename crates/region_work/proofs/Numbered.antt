@@ -27,8 +27,8 @@ use Rattle.crs.specs.Frame.{near, find_vertex}
 use Rattle.set.specs.Set.{Set, check_set}
 use Rattle.set.specs.Sizes.{FRAME, FACE_STORE, SPHERE_WIDTH, SPHERE_STORE}
 use Rattle.stores.specs.Slots.{filled}
-use Rattle.triangles.specs.Triangles.{face_taken, corner_vertex, sphere_built, sphere_taken}
-use Rattle.triangles.specs.Taken.{used_for}
+use Rattle.stores.specs.Triangles.{face_taken, corner_vertex, sphere_built, sphere_taken}
+use Rattle.stores.specs.Taken.{used_for}
 use Rattle.dodecahedron.specs.Place.{finite_place}
 use Rattle.dodecahedron.specs.Work.{finish}
 use Rattle.dodecahedron.specs.Projection.{forward_core}

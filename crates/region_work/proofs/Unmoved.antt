@@ -35,10 +35,10 @@ use Rattle.stores.specs.Used.{face_written, faces_written, sphere_written, used_
 use Rattle.stores.specs.declared.used.Used.{Used}
 use Rattle.stores.proofs.Within.{face_below, source_below, sphere_below}
 use Rattle.stores.proofs.Written.{slot_at, taken_of, written_length, slot_part, still_taken}
-use Rattle.triangles.specs.Triangles.{face_taken, sphere_built, sphere_taken, cross_taken}
-use Rattle.triangles.specs.Taken.{face_for, used_for}
-use Rattle.triangles.proofs.Within.{answered_same}
-use Rattle.triangles.proofs.Uses.{UsedOn}
+use Rattle.stores.specs.Triangles.{face_taken, sphere_built, sphere_taken, cross_taken}
+use Rattle.stores.specs.Taken.{face_for, used_for}
+use Rattle.stores.proofs.TakenWithin.{answered_same}
+use Rattle.stores.proofs.Uses.{UsedOn}
 use Rattle.dodecahedron.specs.Place.{finite_place}
 use Rattle.dodecahedron.specs.Work.{answer_of, used_of, set_used, finish}
 use Rattle.dodecahedron.specs.declared.work.Work.{Work}

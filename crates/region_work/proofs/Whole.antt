@@ -1,6 +1,6 @@
 -- The call on plain values, put together from what its parts ensure. Assumes nothing.
 use mathlib.Core.Path.{◌≡◌, refl, sym, ap, ◌∙◌}
-use mathlib.Core.Bool.{Bool, true, false, ◌||◌, true≢false}
+use mathlib.Core.Bool.{Bool, true, false, true≢false}
 use mathlib.Core.List.{List, [], ◌∷◌}
 use Prim.Native.Nat.{ℕ, ◌≤◌}
 use lib.Dec.{eqb, ltb}
@@ -14,7 +14,7 @@ use Rattle.arithmetic.specs.Arith.{Arith}
 use Rattle.coordinates.specs.declared.lonlat.LonLat.{LonLat}
 use Rattle.set.specs.Set.{Set}
 use Rattle.set.specs.Checks.{check_with}
-use Rattle.triangles.proofs.Within.{answered_same}
+use Rattle.stores.proofs.TakenWithin.{answered_same}
 use Rattle.place_list.specs.Lists.{placed_in_turn, check_counts}
 use Rattle.place_list.specs.declared.PlaceResult.{PlaceResult}
 use Rattle.region_work.specs.declared.region.Region.{Region}

@@ -1,5 +1,5 @@
 // A record of a list: a head of four bytes, then a word of eight bytes, big-endian, for each argument and each answer.
-ghost use Rattle.std.specs.Prelude.{◌≡◌, ◌<◌, ◌≤◌, true, from_bits, take, IfOk, IfSome};
+ghost use Rattle.std.specs.Prelude.{◌≡◌, true, from_bits, take, IfOk, IfSome};
 ghost use Rattle.std.specs.Float.{binary64};
 ghost use Rattle.std.specs.Io.{ReadsAtMost};
 ghost use Rattle.std.specs.Io.KnownBytes.{Consumes};
@@ -7,7 +7,7 @@ ghost use Rattle.replay.specs.Record.{word_at, WellFormed};
 
 use crate::function::{Function, numbered};
 use crate::report;
-use big_endian::value;
+use answer::big_endian::value;
 use std::io;
 use std::io::{Read, Write};
 

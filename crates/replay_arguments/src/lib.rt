@@ -6,7 +6,7 @@ ghost use Rattle.std.specs.Prelude.{◌≡◌, false, IfOk};
 ghost use Rattle.elementary.specs.Sine.{outside};
 
 use answer::Refusal;
-use big_endian::value;
+use answer::big_endian::value;
 use coordinates::base::{Degrees, Radians};
 use coordinates::coords::{Barycentric, Cartesian, Face, FaceTriangle};
 use coordinates::lonlat::LonLat;

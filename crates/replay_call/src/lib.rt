@@ -14,7 +14,7 @@ use coordinates::coords::Face;
 use coordinates::lonlat::LonLat;
 use coordinates::spherical::Spherical;
 use replay::outcome::{Outcome, answered, whole};
-use show::StoreKind;
+use stores::show::StoreKind;
 
 // A call, without the table that it takes.
 #[derive(Clone, Copy)]

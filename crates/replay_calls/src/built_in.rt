@@ -1,9 +1,9 @@
 // The list of forward, inverse, place and unplace on a set, and of open, which makes the set new.
+use crate::set_calls::called;
 use nearest::origins::BuiltIn;
 use replay::function::Function;
 use replay::outcome::{Outcome, done};
 use replay::record::Record;
-use replay_set_calls::called;
 use replay_sets::noted::Set;
 use replay_sets::places::DEFINED_AT;
 use replay_sets::run::{Kinds, run};

@@ -2,7 +2,9 @@
 // it should hold. oracle/README.md has the records.
 #![tactic(auto)]
 
+mod asked;
 mod built_in;
+mod set_calls;
 mod with_tables;
 
 use replay::section::section;

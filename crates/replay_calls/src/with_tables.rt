@@ -1,13 +1,13 @@
 // The list of the calls with a table: open, forward, inverse, place and unplace on a set, and nearest.
 mod notes;
 
+use crate::set_calls::called;
 use crate::with_tables::notes::{NOTES, frame_at, table};
-use nearest_calls::nearest;
+use nearest::call::nearest;
 use replay::function::Function;
 use replay::outcome::{Outcome, done, told, whole};
 use replay::record::Record;
 use replay_arguments::spherical;
-use replay_set_calls::called;
 use replay_sets::noted::Set;
 use replay_sets::run::{Kinds, run};
 use std::alloc::Global;

@@ -6,9 +6,9 @@
 
 use arctangent::core_step::core;
 use arctangent::{atan, atan2};
+use elementary::remainder::remainder;
+use elementary::signs::{abs, max_zero};
 use elementary::whole::{floor, round};
-use float_parts::signs::{abs, max_zero};
-use remainder::remainder;
 use replay::outcome::{one, told, two, whole};
 use replay_tally::table::{Entry, run};
 use sine::{cos, sin, sin_cos, tan};

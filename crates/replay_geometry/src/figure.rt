@@ -4,19 +4,19 @@ mod buffers;
 mod tables;
 
 use crate::figure::buffers::FOREIGN;
+use nearest::call::nearest;
 use nearest::origins::BuiltIn;
-use nearest_calls::nearest;
-use open_calls::open;
 use replay::function::Function;
 use replay::outcome::{Outcome, nowhere, one, told, whole};
 use replay::record::Record;
 use replay_arguments::spherical;
 use replay_tally::Tally;
+use set::open::open;
 use set::sizes::{FACE_STORE, FRAME, SPHERE_STORE};
 use std::io;
 use std::io::{Read, Write};
 
-// The buffers of an opened set. They are replay_draw's `Set` too, which would bring in all calls and draws for three arrays.
+// The buffers of an opened set. `replay_histories` has a `Set` like it: one for both would bring in all calls for three arrays.
 #[derive(Drop)]
 struct Set {
     frame: [f64; FRAME],

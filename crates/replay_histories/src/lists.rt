@@ -1,12 +1,12 @@
 // Lists of calls on one set, beside a second one that gathers what the calls write on newly opened sets. `with_tables` runs
 // its lists alike; each call there brings a table or takes one, and is counted elsewhere.
+use crate::buffers::{FOREIGN, Set};
 use crate::counts::count_outcome;
+use crate::draw::Generator;
+use crate::due::expected;
 use nearest::origins::BuiltIn;
 use replay::function::Function;
 use replay_call::Call;
-use replay_draw::buffers::{FOREIGN, Set};
-use replay_draw::draw::Generator;
-use replay_draw::due::expected;
 use replay_tally::Tally;
 
 // Where it is counted whether every number of the set is as it is due after a call.

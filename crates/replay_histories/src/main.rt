@@ -7,8 +7,12 @@
 // tables are run alike (`with_tables`).
 #![tactic(auto)]
 
+mod buffers;
 mod counts;
+mod draw;
+mod due;
 mod lists;
+mod slots;
 mod vertices;
 mod with_tables;
 

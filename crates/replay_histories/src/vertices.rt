@@ -1,10 +1,10 @@
 // The vertices of a slot's triangle, as show hands them back, and b × c, as it stands in the sphere store, at a record's
 // whole numbers.
+use crate::buffers::Set;
 use replay::outcome::{Outcome, nowhere, three, two};
 use replay::record::Record;
-use replay_draw::buffers::Set;
 use set::sizes::{SPHERE_CROSS, SPHERE_WIDTH};
-use show::{StoreKind, show, slot_state};
+use stores::show::{StoreKind, show, slot_state};
 
 // A number of a record as a place.
 fn place(record: &Record, argument: usize) -> Option<usize> {

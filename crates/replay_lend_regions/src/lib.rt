@@ -10,8 +10,8 @@ ghost use Rattle.replay_lent.specs.Regions.{region_first};
 
 use coordinates::coords::Face;
 use coordinates::lonlat::LonLat;
+use list_calls::region::region;
 use nearest::origins::Origins;
-use region::region;
 use replay_lent::regions::{MOST, Outlined};
 use set::set::Set;
 

@@ -7,9 +7,8 @@
 ghost use Rattle.std.specs.Prelude.{◌<◌};
 
 use answer::Refusal;
-use big_endian::value;
+use answer::big_endian::value;
 use nearest::origins::BuiltIn;
-use open_calls::open;
 use panel_step::step;
 use replay::function::Function;
 use replay::record::read_full;
@@ -18,6 +17,7 @@ use replay_sets::tables;
 use replay_sets::tables::TABLES;
 use replay_tally::lines;
 use replay_tally::lines::Replayed;
+use set::open::open;
 use set::sizes::{FACE_STORE, FRAME, SPHERE_STORE};
 use std::io;
 use std::io::Read;

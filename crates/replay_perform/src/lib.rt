@@ -13,12 +13,12 @@ use crate::regions::outlined;
 use crate::steps::stepped;
 use calls::{forward, inverse, place, unplace};
 use nearest::origins::Origins;
-use open_calls::open;
 use replay::outcome::{Outcome, done, told};
 use replay_arguments::answers;
 use replay_call::{Call, part, state};
+use set::open::open;
 use set::set::Set;
-use show::{show, slot_state};
+use stores::show::{show, slot_state};
 
 // The call on a set, with the table that is handed over, or with the built-in one: open brings it, and every other call that takes
 // one takes it. It leaves the set as the theorem about every list has it.

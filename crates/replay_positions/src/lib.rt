@@ -9,13 +9,13 @@ ghost use Rattle.replay_positions.specs.Positions.{lon_lat_in, first_in, open_ou
 use coordinates::base::Degrees;
 use coordinates::lonlat::LonLat;
 use nearest::origins::BuiltIn;
-use open_calls::open;
 use replay::outcome::{Outcome, done, told};
 use replay::record::Record;
 use replay_sets::asked::lengths;
 use replay_sets::noted::{Lent, Set};
 use replay_sets::places::DEFINED_AT;
 use replay_sets::tables::TABLES;
+use set::open::open;
 
 // The numbers of the records of open, and of the call with a table; the others are the call without one.
 pub const OPEN: u8 = 2;

@@ -13,7 +13,7 @@ use set::sizes::{FACE_STORE, FRAME, SPHERE_STORE};
 use std::alloc::Global;
 use std::io;
 use std::io::{Read, Write};
-use strike_feed::feed;
+use strike_session::feed::feed;
 use strike_session::session::{Fed, begin, finish};
 
 // The longest part of the list, and room for a session's lines.

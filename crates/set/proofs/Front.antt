@@ -1,11 +1,10 @@
 -- A list that starts with another: its first elements are that list. Over any element type. Assumes nothing.
-use mathlib.Core.Path.{◌≡◌, refl, sym, ap, ◌∙◌}
-use mathlib.Core.List.{List, [], ◌∷◌, ◌++◌, append-nil}
-use Prim.Native.Nat.{ℕ, zero, suc, ◌+◌, ◌≤◌, ◌<◌}
-use native.Mathlib.Numerals.{add-one}
+use mathlib.Core.Path.{◌≡◌, ap, ◌∙◌}
+use mathlib.Core.List.{List, ◌++◌}
+use Prim.Native.Nat.{ℕ, ◌+◌, ◌≤◌}
 use native.Mathlib.Omega.{arith}
-use lib.ListN.{length, get_or, take, drop, set, replicate, drop_of_length-le, length-append, length-replicate, get_or-replicate}
-use lib.Seq.{take_all, take_at, length-take-le}
+use lib.ListN.{length, take, length-append}
+use lib.Seq.{take_at, length-take-le}
 
 module _ {A : Type 0} (xs front rest : List A) (n : ℕ) (e : xs ≡ front ++ rest) (l : length front ≡ n) where
   pub front_fits : n ≤ length xs

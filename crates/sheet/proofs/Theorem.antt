@@ -1,18 +1,16 @@
 -- Paper 13's claims, for every twelve counts, and for a window after every list of additions. Assumes nothing.
 use mathlib.Core.Path.{◌≡◌, refl, sym, ap, ◌∙◌}
-use mathlib.Core.Bool.{Bool, true, false, cond}
-use mathlib.Core.List.{List, [], ◌∷◌}
-use Prim.Native.Nat.{ℕ, suc, ◌+◌, ◌%◌, ◌^◌, ◌≤◌, ◌<◌}
+use mathlib.Core.List.{List, []}
+use Prim.Native.Nat.{ℕ, ◌+◌, ◌%◌, ◌^◌, ◌≤◌, ◌<◌}
 use native.Mathlib.Omega.{arith}
 use native.Mathlib.Nat.{mod-eq_of_lt}
 use borrow.Author.Tests.{eq-eqb}
-use lib.Dec.{eqb}
 use lib.ListN.{length, get_or, take, drop}
 use lib.Seq.{take_all}
 use Rattle.answer.specs.Given.{Given, passed}
 use Rattle.decimal.specs.Decimal.{decimal, number_in}
 use Rattle.window.specs.Window.{empty_window}
-use Rattle.window.specs.Kept.{Strike, kept, accepted, count}
+use Rattle.window.specs.Kept.{kept, accepted}
 use Rattle.window.specs.EveryList.{sum, after}
 use Rattle.window.proofs.Recent.{count_most}
 use Rattle.window.proofs.Theorem.{every_list}

@@ -6,7 +6,7 @@ ghost use Rattle.std.specs.Float.{binary64};
 ghost use Rattle.std.specs.Float.Ieee.{mul, rem, lt};
 ghost use Rattle.answer.specs.Number.{is_finite};
 ghost use Rattle.arithmetic.specs.Arith.{ieee};
-ghost use Rattle.float_parts.specs.Signs.{abs};
+ghost use Rattle.elementary.specs.Signs.{abs};
 ghost use Rattle.elementary.specs.Constants.{TAU as the_tau, FRAC_2_PI as the_frac_2_pi};
 ghost use Rattle.elementary.specs.Whole.{roundℤ};
 ghost use Rattle.elementary.specs.Sine.{outside, modulo4, whole_float, sin_cos_reduced, sin_cos, sin, cos, tan};
@@ -25,10 +25,10 @@ fn within_turn(x: f64) -> f64
     ensures left { result ≡ rem binary64 x the_tau }
     ensures within { lt (abs result) the_tau ≡ true }
 {
-    if float_parts::signs::abs(x) < TAU {
+    if elementary::signs::abs(x) < TAU {
         x
     } else {
-        remainder::remainder(x, TAU)
+        elementary::remainder::remainder(x, TAU)
     }
 }
 

@@ -19,7 +19,7 @@ use elementary::sine::SinCos;
 pub fn is_outside(x: f64) -> bool
     ensures { result ≡ outside x }
 {
-    answer::is_finite(x) && 64.0 < float_parts::signs::abs(x)
+    answer::is_finite(x) && 64.0 < elementary::signs::abs(x)
 }
 
 // 19, where x is outside.

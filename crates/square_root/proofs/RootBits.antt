@@ -20,7 +20,7 @@ use Rattle.arithmetic.proofs.Units.{unique}
 use Rattle.arithmetic.proofs.Count.{plus_fields, count_at}
 use Rattle.arithmetic.proofs.Width.{Wide, scaled, root_wide, sqrt_wide, scaled_half, scaled_lo, root_lo, root_hi, root_fits}
 use Rattle.square_root.specs.Root.{Radicand}
-use Rattle.float_parts.specs.Signs.{negative}
+use Rattle.elementary.specs.Signs.{negative}
 
 -- ---- which patterns are of finite values above zero
 

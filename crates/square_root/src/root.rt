@@ -61,7 +61,7 @@ fn full_width(b: u64) -> Number
     ensures is { Radicand (of_bits binary64 b) result.m result.e }
     ensures width { (2 ^ 52 ≤ result.m) × (result.m < 2 ^ 54) }
 {
-    let p = float_parts::parts::split(b);
+    let p = elementary::parts::split(b);
     let n = widened(p.m, p.h);
     Number {
         m: n.a << (n.g % 2),

@@ -3,3 +3,7 @@ pub mod Runs
 pub mod Within
 pub mod ReadBack
 pub mod Written
+pub mod ShowFits
+pub mod TakenWithin
+pub mod CornerAngles
+pub mod Uses

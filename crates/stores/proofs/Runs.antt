@@ -1,12 +1,11 @@
 -- A run of elements in the middle of a list, over any element type, place and width: what stores over a whole run leave, and a
 -- mark and a run that is lent on from behind it. Assumes nothing.
-use mathlib.Core.Path.{◌≡◌, refl, ap, ◌∙◌}
-use mathlib.Core.List.{List, [], ◌∷◌, ◌++◌, append-nil}
+use mathlib.Core.Path.{◌≡◌, refl, ap}
+use mathlib.Core.List.{List, [], ◌∷◌}
 use Prim.Native.Nat.{ℕ, zero, suc, ◌+◌, ◌-◌, ◌<◌, ◌≤◌}
 use native.Mathlib.Numerals.{add-one}
 use native.Mathlib.Omega.{arith}
-use lib.ListN.{length, set, length-append, length-take, length-drop, drop_of_length-le}
-use lib.Seq.{sets, sets-eq}
+use lib.ListN.{length, set, length-append, length-take, length-drop}
 use borrow.Rule.Slice.PartMut.{put_mid}
 use Rattle.stores.specs.Slots.{put}
 

@@ -1,6 +1,6 @@
 -- A session's begin, its reads and its end as one: what each writes, and the session from where open left it as one from the set as it was. Assumes nothing.
-use mathlib.Core.Path.{◌≡◌, refl, ap, ◌∙◌, subst}
-use mathlib.Core.Bool.{Bool, true, false, true≢false, ◌||◌}
+use mathlib.Core.Path.{◌≡◌, ap, ◌∙◌, subst}
+use mathlib.Core.Bool.{Bool, false, ◌||◌}
 use mathlib.Core.List.{List, []}
 use Prim.Native.Nat.{ℕ, ◌≤◌}
 use native.Mathlib.Nat.{zero-add}
@@ -21,9 +21,9 @@ use Rattle.strike_session.specs.Results.{WritesIfRoom, Opens}
 use Rattle.strike_session.specs.declared.session.Begun.{Begun}
 use Rattle.strike_session.specs.Pieces.{fitting}
 use Rattle.strike_session.proofs.Results.{with_room}
-use Rattle.strike_reads.specs.Steps.{State, state_of, Roomy, begun, Ended, Passes, bytes_of, lines_of}
-use Rattle.strike_reads.proofs.Arrived.{put_start}
-use Rattle.strike_reads.proofs.Whole.{whole_session}
+use Rattle.strike_session.specs.Steps.{State, state_of, RoomyBuffers, begun, Ended, Passes, bytes_of, lines_of}
+use Rattle.strike_session.proofs.Arrived.{put_start}
+use Rattle.strike_session.proofs.Whole.{whole_session}
 
 -- what was written of a line for which there is room
 first_line : (written : ℕ) (before out line : List ℕ) → LINE ≤ length before → WritesIfRoom (change before out) line written → take written out ≡ line
@@ -46,7 +46,7 @@ module _ (space written : ℕ) (out : List ℕ) (unread unread' x y : Option (Li
 pub whole :
     (s₀ s₁ : Set) {set : Set} (buffer : List ℕ) (end : State) {before before₁ out : List ℕ} {opened : Begun} {written : ℕ}
     {unread unread' w x y z : Option (List ℕ)} {unbegun unended lost : Bool}
-    → Roomy buffer before
+    → RoomyBuffers buffer before
     → Opens (change s₀ s₁) (change before before₁) opened → length before₁ ≡ length before
     → Ends (length buffer) written out unread unread' x y lost (length before₁) (state_of opened.stage 0 s₁ buffer) end
     → (unbegun ≡ false → Appends w x (take opened.written before₁))

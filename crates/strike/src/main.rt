@@ -8,15 +8,15 @@ ghost use Rattle.arithmetic.specs.Arith.{ieee};
 ghost use Rattle.origin.specs.Origins.{ORIGINS};
 ghost use Rattle.set.specs.Outcome.{lent_mut};
 ghost use Rattle.set.specs.Lent.{SameBuffers, held};
-ghost use Rattle.strike_reads.specs.Steps.{Begins, Roomy, state_of, begun, Ended, Passes, bytes_of, lines_of};
+ghost use Rattle.strike_session.specs.Steps.{Begins, RoomyBuffers, state_of, begun, Ended, Passes, bytes_of, lines_of};
 ghost use Rattle.strike_session.specs.Session.{program};
 
 use set::set::Set;
 use set::sizes::{FACE_STORE, FRAME, SPHERE_STORE};
 use std::io::{Read, Write};
-use strike_input::read_all;
+use strike_session::input::read_all;
 use strike_session::session::{Stage, begin, finish};
-use strike_step::loses;
+use strike_session::step::loses;
 
 // A session behind all its reads: where it stands, how many bytes of the buffer were not taken, how
 // many bytes its last line has, and whether lines are lost because a write failed.
@@ -37,7 +37,7 @@ fn answer_all<R: Read, W: Write>(
     buffer: &mut [u8],
     out: &mut [u8],
 ) -> Last
-    requires { Begins stage × Roomy buffer.old out.old }
+    requires { Begins stage × RoomyBuffers buffer.old out.old }
     ensures same { SameBuffers set.old set.new }
     ensures ends { (e : Ended (length buffer.old) (length out.old)
         (state_of stage 0 (held set.old) buffer.old)
@@ -79,7 +79,7 @@ fn run<R: Read, W: Write>(
     buffer: &mut [u8],
     out: &mut [u8],
 ) -> Last
-    requires { Roomy buffer.old out.old }
+    requires { RoomyBuffers buffer.old out.old }
     ensures { (e : Ended (length buffer.old) (length out.old)
         (begun (lent_mut frame face_store sphere_store).entry)
         (state_of result.stage result.kept (lent_mut frame face_store sphere_store).exit buffer.new)

@@ -10,7 +10,7 @@ use coordinates::lonlat::LonLat;
 use decimal::write_number;
 use dodecahedron::place::Place;
 
-// Room for any line. Those that write a line, here and in `strike_answers`, ask for it: what they write is counted by the place
+// Room for any line. Those that write a line, here and in crate strike_session, ask for it: what they write is counted by the place
 // that they return, which a struct of the slice and the place would have to hand back all the same.
 pub const LINE: usize = 40;
 

@@ -1,15 +1,14 @@
 -- Feeding, case by case: what the header and the input's end give, and that no more is taken or written than there is room for. Assumes nothing.
-use mathlib.Core.Path.{◌≡◌, refl, sym, ap, subst, ◌∙◌}
+use mathlib.Core.Path.{◌≡◌, refl, sym, subst}
 use mathlib.Core.Bool.{Bool, true, false}
-use mathlib.Core.List.{List, [], ◌∷◌}
+use mathlib.Core.List.{List, []}
 use Prim.Native.Nat.{ℕ, zero, suc, ◌+◌, ◌-◌, ◌/◌, ◌≤◌, ◌<◌, min, zero-le}
-use native.Mathlib.Nat.{zero-min, min-zero, suc-min-suc, le_trans, min-le_left, min-le_right}
+use native.Mathlib.Nat.{le_trans, min-le_left, min-le_right}
 use native.Mathlib.Omega.{arith}
 use borrow.Author.Tests.{lt-ltb, le-ltb, ltb-true, ltb-false}
 use lib.Dec.{ltb}
 use lib.Ieee.{Float}
-use lib.ListN.{length, take, drop, length-drop}
-use lib.Seq.{take_all}
+use lib.ListN.{length, drop, length-drop}
 use Rattle.arithmetic.specs.Arith.{Arith}
 use Rattle.set.specs.Set.{Set}
 use Rattle.strike_records.specs.Line.{LINE}

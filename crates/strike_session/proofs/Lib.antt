@@ -2,3 +2,8 @@
 pub mod Feeding
 pub mod Cutting
 pub mod Results
+pub mod Replies
+pub mod Arrived
+pub mod Counted
+pub mod Passed
+pub mod Whole

@@ -2,3 +2,5 @@
 pub mod Session
 pub mod Pieces
 pub mod Results
+pub mod Replies
+pub mod Steps

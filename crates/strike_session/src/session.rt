@@ -55,7 +55,7 @@ pub fn begin(
 ) -> Begun
     ensures { Opens (lent_mut frame face_store sphere_store) (lent_bytes out) result }
 {
-    match open_calls::open(BuiltIn, frame, face_store, sphere_store) {
+    match set::open::open(BuiltIn, frame, face_store, sphere_store) {
         Ok(()) => Begun {
             stage: Stage::Header,
             written: 0,

@@ -7,8 +7,8 @@ use native.Mathlib.Omega.{arith}
 use lib.ListN.{length, get_or, take, drop, length-append}
 use lib.Seq.{drop-drop, take_at, take-suc, length-take-le}
 use lib.Ieee.{Float, nan}
-use Rattle.big_endian.specs.BigEndian.{double_in, double_bytes}
-use Rattle.big_endian.proofs.Bytes.{length_double}
+use Rattle.answer.specs.BigEndian.{double_in, double_bytes}
+use Rattle.answer.proofs.Bytes.{length_double}
 use Rattle.table_file.specs.TableFile.{HEADER, doubles, table_in, bytes_of_all}
 
 -- ---- reading

@@ -14,13 +14,13 @@ use Rattle.answer.specs.Given.{answered}
 use Rattle.answer.specs.Number.{is_finite}
 use Rattle.answer.proofs.Given.{refuse_answered, then_answered}
 use Rattle.arithmetic.specs.Arith.{ieee}
-use Rattle.big_endian.specs.BigEndian.{double_in, double_bytes}
+use Rattle.answer.specs.BigEndian.{double_in, double_bytes}
 use borrow.Author.Tests.{eq-eqb, not-false}
 use Rattle.std.proofs.lemmas.Bool.Decides.{Decides-eqb}
 use Rattle.std.proofs.lemmas.Slice.Eq.{starts_is}
 use Rattle.std.proofs.lemmas.List.Elements.{All-take, All-drop, All-from_get_or}
-use Rattle.big_endian.proofs.Bytes.{length_double, double_back, bytes_back, marked}
-use Rattle.big_endian.proofs.Bytes as held
+use Rattle.answer.proofs.Bytes.{length_double, double_back, bytes_back, marked}
+use Rattle.answer.proofs.Bytes as held
 use Rattle.origin.specs.Table.{check_table, numbers_sound}
 use Rattle.origin.proofs.Check.{passed_sound}
 use Rattle.origin.proofs.Sizes.{sound_finite}

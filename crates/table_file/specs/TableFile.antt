@@ -5,7 +5,7 @@ use Rattle.answer.specs.Given.{Given, answered, refused, passed, refuse_if, and_
 use Rattle.answer.specs.Answer.{given}
 use Rattle.answer.specs.declared.Refusal.{Refusal}
 use Rattle.arithmetic.specs.Arith.{Arith}
-use Rattle.big_endian.specs.BigEndian.{double_in, double_bytes}
+use Rattle.answer.specs.BigEndian.{double_in, double_bytes}
 use Rattle.origin.specs.Table.{check_table}
 
 -- the mark, the version and 84 doubles

@@ -28,7 +28,7 @@ fn numbers(bytes: &[u8]) -> [f64; 84]
 {
     let mut table = [0.0; 84];
     for i in 0..84 {
-        table[i] = big_endian::read_double(bytes, 5 + 8 * i);
+        table[i] = answer::big_endian::read_double(bytes, 5 + 8 * i);
     }
     table
 }
@@ -54,7 +54,7 @@ fn write(table: &[f64; 84], bytes: &mut [u8])
 {
     bytes[..5].copy_from_slice(HEADER);
     for (i, number) in table.iter().enumerate() {
-        big_endian::write_double(bytes, 5 + 8 * i, *number);
+        answer::big_endian::write_double(bytes, 5 + 8 * i, *number);
     }
 }
 

@@ -19,7 +19,7 @@ use Rattle.arithmetic.specs.Arith.{Arith, ieee}
 use Rattle.arithmetic.proofs.Compared.{cut_asks, cut_value}
 use Rattle.arithmetic.proofs.Remainder.{rem_exact}
 use Rattle.arithmetic.proofs.Units.{Units, rise, count}
-use Rattle.float_parts.specs.Signs.{abs, negative}
+use Rattle.elementary.specs.Signs.{abs, negative}
 use Rattle.elementary.specs.Whole.{signed, floor_size, floor, floorℤ}
 use Rattle.elementary.proofs.Values.{floor_sized}
 use Rattle.coordinates.specs.declared.base.Radians.{Radians}

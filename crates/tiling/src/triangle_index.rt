@@ -7,9 +7,9 @@ ghost use Rattle.tiling.specs.Index.{modulo10, triangle_index, normalize_gamma, 
 
 use coordinates::base::Radians;
 use coordinates::polar::Polar;
+use elementary::remainder::remainder;
+use elementary::signs::{abs, negative};
 use elementary::whole::{floor, round};
-use float_parts::signs::{abs, negative};
-use remainder::remainder;
 use sine::inside::cos_inside;
 use std::f64::consts::{PI, TAU};
 

@@ -10,7 +10,7 @@ ghost use Rattle.coordinates.specs.CoordinateTransforms.{deg_to_rad, rad_to_deg,
 use coordinates::base::{Degrees, Radians};
 use coordinates::lonlat::LonLat;
 use coordinates::spherical::Spherical;
-use remainder::remainder;
+use elementary::remainder::remainder;
 use std::f64::consts::{FRAC_PI_2, PI};
 
 // Degrees as radians.

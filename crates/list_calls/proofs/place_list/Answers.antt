@@ -7,7 +7,7 @@ use Rattle.arithmetic.specs.Arith.{ieee}
 use Rattle.set.specs.Lent.{held}
 use Rattle.place_list.specs.Lists.{called}
 use Rattle.place_list.proofs.Laws.{refused_list}
-use Rattle.list_parts.proofs.Loop.{list_passed, long, turned_end}
+use Rattle.list_calls.proofs.Loop.{list_passed, long, turned_end}
 use Rattle.list_calls.proofs.place_list.Goals as goal
 
 pub returns-in_err-check_list-clause-listed : goal.returns-in_err-check_list-clause-listed

@@ -1,10 +1,10 @@
 // Open on buffers of any length, and the rows of a buffer that it has written. None where a buffer has no such place.
 use answer::Refusal;
 use nearest::origins::BuiltIn;
-use open_calls::open;
 use replay::outcome::{Outcome, answered, done, three, told};
 use replay::record::Record;
 use replay_numbers::unlike;
+use set::open::open;
 use set::sizes::{FACE_STORE, FRAME, SPHERE_STORE};
 
 // Room for a buffer and one number more, so that one too many can be lent, and what lies behind is looked at.
@@ -14,7 +14,7 @@ const FACE_ROOM: usize = FACE_STORE + 1;
 
 const SPHERE_ROOM: usize = SPHERE_STORE + 1;
 
-// What every buffer holds before open: a number that open never writes. `replay_draw`'s would bring in all calls and draws.
+// What every buffer holds before open: a number that open never writes. `replay_histories` has one of its own.
 pub const FOREIGN: f64 = 7.5;
 
 // The three numbers of a row.

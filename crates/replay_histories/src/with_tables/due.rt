@@ -1,10 +1,10 @@
 // What a call must come to, with the table that it brings or takes, and what the set must hold after it.
+use crate::buffers::Set;
+use crate::due::expected;
 use nearest::origins::BuiltIn;
 use origin::origin::built_in;
 use replay::outcome::{Outcome, done, told};
 use replay_call::Call;
-use replay_draw::buffers::Set;
-use replay_draw::due::expected;
 
 // The table of the last open that answered, which every other call takes, and the set as it must be.
 #[derive(Drop)]

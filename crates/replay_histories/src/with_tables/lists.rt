@@ -1,14 +1,14 @@
 // Lists of calls with tables on one set, beside a second one that gathers what the calls write on sets newly opened with the
 // same table. Each open brings a table, and every other call takes that of the last open that answered. The lists without
 // tables are run alike.
+use crate::buffers::{FOREIGN, Set};
+use crate::draw::Generator;
 use crate::with_tables::counts::count_outcome;
 use crate::with_tables::due::Due;
 use crate::with_tables::tables;
 use nearest::origins::BuiltIn;
 use replay::function::Function;
 use replay_call::Call;
-use replay_draw::buffers::{FOREIGN, Set};
-use replay_draw::draw::Generator;
 use replay_tally::Tally;
 
 // Where it is counted whether every number of the set is as it is due after a call.

@@ -1,13 +1,13 @@
 // The tables that opens bring, from the generator: the built-in one, turned ones, and some that open refuses.
 ghost use Rattle.std.specs.Prelude.{◌<◌};
 
-use big_endian::value;
+use crate::draw::{Generator, around};
+use answer::big_endian::value;
 use coordinates::coords::Cartesian;
 use coordinates::vec3::Vec3;
 use origin::origin::built_in;
 use origin::quaternion::transform_quat;
 use origin::utils::Quat;
-use replay_draw::draw::{Generator, around};
 use square_root::root::sqrt;
 use transforms::coordinate_transforms::to_spherical;
 

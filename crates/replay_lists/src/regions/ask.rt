@@ -1,8 +1,8 @@
 // The calls on a set: a region, with a table too, and open.
 use crate::regions::outline::Outline;
+use list_calls::region::region;
 use nearest::origins::{BuiltIn, Origins};
-use region::region;
-use replay::outcome::{Outcome, done, told, whole};
+use replay::outcome::{Outcome, told, whole};
 use replay::record::Record;
 use replay_positions::{OPEN, TABLES_AT, WITH, opened};
 use replay_sets::asked::lengths;

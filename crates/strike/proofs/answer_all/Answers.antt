@@ -5,8 +5,8 @@ use lib.ListN.{length}
 use lib.Seq.{length-take-le}
 use Rattle.strike_records.specs.Line.{LINE}
 use Rattle.set.specs.Lent.{held}
-use Rattle.strike_reads.specs.Steps.{state_of}
-use Rattle.strike_reads.proofs.Arrived.{ended}
+use Rattle.strike_session.specs.Steps.{state_of}
+use Rattle.strike_session.proofs.Arrived.{ended}
 use Rattle.strike.proofs.answer_all.Goals as goal
 
 pub returns-clause-ends : goal.returns-clause-ends

@@ -3,7 +3,7 @@
 use Rattle.std.proofs.Common.{rules}
 use Rattle.set.specs.Set.{set_of}
 use Rattle.set.specs.Lent.{held}
-use Rattle.strike_reads.specs.Steps.{state_of}
+use Rattle.strike_session.specs.Steps.{state_of}
 use Rattle.strike.proofs.Together.{whole}
 use Rattle.strike.proofs.run.Goals as goal
 

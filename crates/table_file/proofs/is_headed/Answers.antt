@@ -3,7 +3,7 @@ use mathlib.Core.Path.{◌∙◌}
 use native.Mathlib.Omega.{arith}
 use mathlib.Core.Bool.{and_assoc}
 use borrow.Author.Tests.{eq-eqb, ne_eqb}
-use Rattle.big_endian.proofs.Bytes.{marked}
+use Rattle.answer.proofs.Bytes.{marked}
 use Rattle.table_file.specs.TableFile.{headed}
 use Rattle.table_file.proofs.is_headed.Goals as goal
 

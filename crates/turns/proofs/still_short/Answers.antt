@@ -1,7 +1,6 @@
 -- `still_short` meets its contract: a byte of the test. Assumes nothing.
 use mathlib.Core.Path.{◌≡◌, refl, ◌∙◌}
 use mathlib.Core.Bool.{Bool, true, false, cond}
-use Prim.Native.Nat.{ℕ}
 use lib.Dec.{ltb}
 use mir.Val.{bool_byte}
 use Rattle.turns.specs.Turns.{still_short}

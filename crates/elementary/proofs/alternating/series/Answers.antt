@@ -1,4 +1,4 @@
--- `series` meets its contract. The loop's invariant: with the coefficients to come, p gives what the first does with all. Assumes nothing.
+-- `alternating::series` meets its contract. The loop's invariant: with the coefficients to come, p gives what the first does with all. Assumes nothing.
 use Rattle.std.proofs.Common.{add-one, drop-cons}
 use Rattle.std.proofs.lemmas.List.{drop_all}
 use Rattle.std.specs.Float.{nan}

@@ -1,4 +1,4 @@
--- `series` meets its contract. The loop's invariant: with the coefficients to come, p gives what the first does with all. Assumes nothing.
+-- `alternating::series` meets its contract. The loop's invariant: with the coefficients to come, p gives what the first does with all. Assumes nothing.
 use Rattle.std.proofs.Common.{◌≡◌, drop}
 use Rattle.arithmetic.specs.Arith.{ieee}
 use Rattle.elementary.specs.Sine.{series}

@@ -1,4 +1,4 @@
--- `floor` meets its contract: a value with no fraction is its own, and any other's is made from its whole part and its sign. Assumes nothing.
+-- `whole::floor` meets its contract: a value with no fraction is its own, and any other's is made from its whole part and its sign. Assumes nothing.
 use Rattle.std.proofs.Common.{ℕ, ◌≡◌, suc, ◌+◌, ◌*◌, ◌/◌, ◌^◌, ◌<◌, ◌≤◌, true, false, not, sym, ap, ◌∙◌, add-one, arith, le→leb}
 use lib.IntN.{pos}
 use lib.Ieee.{Float, binary64, of_int, of_bits, to_unsigned, eq, in_float}

@@ -1,4 +1,4 @@
--- `nearest_size` meets its contract: the whole part of a + a, which is exact, counts the halves of a. Assumes nothing.
+-- `whole::nearest_size` meets its contract: the whole part of a + a, which is exact, counts the halves of a. Assumes nothing.
 use Rattle.std.proofs.Common.{◌≡◌, ◌+◌, ◌/◌, ap, ◌∙◌, arith}
 use lib.Ieee.Positive.{num, den, den_pos}
 use Rattle.elementary.specs.Whole.{round_size}

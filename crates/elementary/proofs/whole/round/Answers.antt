@@ -1,10 +1,10 @@
--- `round` meets its contract: a value with no fraction is its own, and any other's is made from the nearest size and its sign. Assumes nothing.
+-- `whole::round` meets its contract: a value with no fraction is its own, and any other's is made from the nearest size and its sign. Assumes nothing.
 use Rattle.std.proofs.Common.{◌≡◌, ◌*◌, ◌^◌, ◌≤◌, true, false, not, ap, ◌∙◌, arith}
 use lib.Ieee.{Float, binary64, of_int, of_bits}
 use lib.Ieee.Positive.{num, den, den_pos}
 use Rattle.arithmetic.proofs.Rounding.{neg_round}
 use Rattle.elementary.specs.Whole.{round_size}
-use Rattle.float_parts.proofs.SignBit.{abs_positive}
+use Rattle.elementary.proofs.SignBit.{abs_positive}
 use Rattle.elementary.proofs.Fraction.{Below, below, same_size, Fraction, large_whole, equal, unequal, sign_is, round_back, round_whole, round_part}
 use Rattle.elementary.proofs.whole.round.Goals as goal
 use Rattle.elementary.proofs.whole.round.Goals.{After-nearest_size-y, Else-y-a}

@@ -2,7 +2,7 @@
 use mathlib.Core.Path.{sym, ap, ◌∙◌}
 use native.Mathlib.Omega.{arith}
 use Rattle.answer.specs.Answer.{given}
-use Rattle.show.proofs.Fits.{slot_lies}
+use Rattle.stores.proofs.ShowFits.{slot_lies}
 use Rattle.exports.proofs.slots.part_shown.Goals as goal
 
 pub overflow_mul-result : goal.overflow_mul-result

@@ -4,7 +4,7 @@ use mathlib.Core.List.{List}
 use lib.Ieee.{Float}
 use Rattle.answer.specs.Answer.{given as Answer·given}
 use Rattle.arithmetic.specs.Arith.{ieee}
-use Rattle.nearest_calls.specs.Calls.{nearest_given}
+use Rattle.nearest.specs.Calls.{nearest_given}
 use Rattle.border.specs.Calls.{spherical}
 use Rattle.border.proofs.Tables.{with_rows}
 use Rattle.exports.proofs.tables.a5_nearest_with.Goals as goal

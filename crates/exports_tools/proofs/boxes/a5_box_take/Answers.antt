@@ -1,6 +1,6 @@
 -- `boxes::a5_box_take` meets its contract: the box's own. Assumes nothing.
 use mathlib.Core.Path.{ap, ◌∙◌}
-use Rattle.answer.specs.Given.{Given, status}
+use Rattle.answer.specs.Given.{status}
 use Rattle.exports_tools.proofs.boxes.a5_box_take.Goals as goal
 
 pub returns : goal.returns

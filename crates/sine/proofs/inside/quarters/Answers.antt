@@ -9,8 +9,8 @@ use lib.Ieee.{Float, binary64, mul}
 use lib.Ieee.Positive.{num, den}
 use Rattle.arithmetic.specs.Arith.{ieee}
 use Rattle.arithmetic.proofs.Rounding.{AtMost}
-use Rattle.float_parts.specs.Signs.{negative}
-use Rattle.float_parts.proofs.SignBit.{abs_positive}
+use Rattle.elementary.specs.Signs.{negative}
+use Rattle.elementary.proofs.SignBit.{abs_positive}
 use Rattle.elementary.specs.Constants.{FRAC_2_PI}
 use Rattle.elementary.specs.Sine.{modulo4, whole_float}
 use Rattle.elementary.specs.Whole.{round_size, roundℤ}

@@ -1,6 +1,6 @@
 -- `inside::size` meets its contract: a finite value is no NaN, and the sign bit is cleared. Assumes nothing.
-use Rattle.float_parts.proofs.SignBit.{cleared, cleared_number}
-use Rattle.remainder.proofs.Values.{finite_number}
+use Rattle.elementary.proofs.SignBit.{cleared, cleared_number}
+use Rattle.elementary.proofs.RemainderValues.{finite_number}
 use Rattle.sine.proofs.inside.size.Goals as goal
 
 pub float_to_bits-result : goal.float_to_bits-result

@@ -7,7 +7,7 @@ use native.Mathlib.Omega.{arith}
 use lib.Ieee.{binary64, of_bits}
 use Rattle.arithmetic.proofs.Count.{scale}
 use Rattle.arithmetic.proofs.Width.{scaled_half}
-use Rattle.float_parts.proofs.Digits.{Split, split_is}
+use Rattle.elementary.proofs.Digits.{Split, split_is}
 use Rattle.square_root.proofs.RootBits.{radicand_lo, radicand_hi}
 use Rattle.square_root.proofs.root.full_width.Goals as goal
 

@@ -10,7 +10,7 @@ use lib.Dec.{T}
 use lib.Ieee.{Float, binary64, fits, of_bits, to_bits}
 use lib.Ieee.Bits.{of_bits-to_bits}
 use lib.Ieee.Positive.{positive}
-use Rattle.float_parts.proofs.SignBit.{sign_bit, the_nan}
+use Rattle.elementary.proofs.SignBit.{sign_bit, the_nan}
 use Rattle.square_root.proofs.RootBits.{top_not_positive, negative_not_positive}
 use Rattle.square_root.proofs.root.pattern.Goals as goal
 use Rattle.square_root.proofs.root.pattern.Goals.{then-b-eq0-via-then-b-eq0, then-b-eq0-via-else-b-eq0+then-b-ge9218868437227405312}

@@ -4,7 +4,7 @@ use Prim.Native.Nat.{ℕ, ◌+◌, ◌-◌, ◌*◌, ◌^◌}
 use native.Mathlib.Omega.{arith}
 use Rattle.arithmetic.proofs.Powers.{apart}
 use Rattle.arithmetic.proofs.Width.{moved}
-use Rattle.float_parts.proofs.Lead.{Lead, shift, lead}
+use Rattle.elementary.proofs.Lead.{Lead, shift, lead}
 use Rattle.square_root.proofs.root.widened.Goals as goal
 use Rattle.square_root.proofs.root.widened.Goals.{Else-m-ge4503599627370496}
 

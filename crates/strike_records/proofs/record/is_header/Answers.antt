@@ -1,7 +1,7 @@
 -- `record::is_header` meets its contract. Assumes nothing.
 use mathlib.Core.Path.{◌∙◌}
 use borrow.Author.Tests.{le-ltb}
-use Rattle.big_endian.proofs.Bytes.{marked}
+use Rattle.answer.proofs.Bytes.{marked}
 use Rattle.strike_records.specs.Record.{headed}
 use Rattle.strike_records.proofs.record.is_header.Goals as goal
 

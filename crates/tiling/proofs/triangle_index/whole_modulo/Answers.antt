@@ -4,7 +4,7 @@ use Rattle.std.proofs.Common.{◌≡◌, ◌%◌, Bool, true, not, T, sym, ap, �
 use native.Mathlib.Nat.{mod-mod}
 use lib.Ieee.{Float, binary64, fits, rem, lt, of_bits, to_unsigned}
 use Rattle.answer.specs.Number.{is_finite}
-use Rattle.float_parts.specs.Signs.{abs}
+use Rattle.elementary.specs.Signs.{abs}
 use Rattle.elementary.proofs.Fraction.{Below, below, cut_below}
 use Rattle.tiling.proofs.Modulo.{modulo_is, not_finite, LastDigit, last_digit}
 use Rattle.tiling.proofs.triangle_index.whole_modulo.Goals as goal

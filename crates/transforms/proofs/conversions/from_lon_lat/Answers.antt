@@ -1,7 +1,6 @@
 -- `conversions::from_lon_lat` meets its contract. Assumes nothing.
 use mathlib.Core.Path.{sym, ap, ◌∙◌}
 use Rattle.answer.specs.Answer.{given}
-use Rattle.coordinates.specs.Conversions.{finite_spherical, from_lon_lat_given}
 use Rattle.coordinates.proofs.Sizes.{latitude_inside}
 use Rattle.transforms.proofs.conversions.from_lon_lat.Goals as goal
 

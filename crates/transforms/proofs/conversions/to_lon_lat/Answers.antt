@@ -1,7 +1,6 @@
 -- `conversions::to_lon_lat` meets its contract. Assumes nothing.
 use mathlib.Core.Path.{sym, ap, ◌∙◌}
 use Rattle.answer.specs.Answer.{given}
-use Rattle.coordinates.specs.Conversions.{finite_lon_lat, to_lon_lat_given}
 use Rattle.coordinates.proofs.Sizes.{passed_colatitude}
 use Rattle.transforms.proofs.conversions.to_lon_lat.Goals as goal
 

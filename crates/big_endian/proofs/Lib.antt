@@ -1,2 +1,0 @@
--- Laws on numbers as bytes.
-pub mod Bytes

@@ -1,2 +1,0 @@
--- Doubles as bytes. Definitions only.
-pub mod BigEndian

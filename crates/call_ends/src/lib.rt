@@ -1,4 +1,0 @@
-// How a call ends: the slots that it used are written.
-#![tactic(auto)]
-
-pub mod leave;

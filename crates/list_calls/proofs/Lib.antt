@@ -1,0 +1,3 @@
+-- Laws behind the proofs of the functions.
+pub mod Loop
+pub mod WholeRegion

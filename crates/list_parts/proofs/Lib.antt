@@ -1,2 +1,0 @@
--- Laws behind the proofs of the functions.
-pub mod Loop

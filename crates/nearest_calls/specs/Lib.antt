@@ -1,2 +1,0 @@
--- The nearest origin as a call. Definitions only.
-pub mod Calls

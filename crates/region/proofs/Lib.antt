@@ -1,2 +1,0 @@
--- Laws behind the proof of the function.
-pub mod Whole

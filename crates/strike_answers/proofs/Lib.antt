@@ -1,2 +1,0 @@
--- Laws behind the proofs of records answered on a set.
-pub mod Replies

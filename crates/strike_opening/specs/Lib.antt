@@ -1,2 +1,0 @@
--- Paper 9 for the strike program. Definitions only.
-pub mod Strike
