@@ -2,6 +2,7 @@
 
 mod agree;
 mod forms;
+mod placed;
 #[allow(dead_code)]
 #[path = "../../oracle/common/generator.rs"]
 mod generator;
