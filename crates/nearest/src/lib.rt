@@ -10,11 +10,12 @@ ghost use Rattle.arithmetic.specs.Arith.{ieee};
 ghost use Rattle.elementary.specs.Sine.{outside, sin};
 ghost use Rattle.coordinates.specs.Constants.{2·0};
 ghost use Rattle.origin.specs.Origins.{ORIGINS};
-ghost use Rattle.nearest.specs.Nearest.{least, haversine, haversines};
+ghost use Rattle.nearest.specs.Nearest.{least, haversine, haversines, nearest_origin};
 
 pub mod call;
 pub mod origins;
 
+use crate::origins::{BuiltIn, Origins};
 use coordinates::spherical::Spherical;
 use origin::table::{SoundTable, origin_in};
 use sine::inside::sin_inside;
@@ -128,4 +129,14 @@ pub(crate) fn haversines_in(table: SoundTable<'_>, point: Spherical) -> [f64; 12
         distances[usize::from(k)] = haversine_by(point, sine, origin_in(table.rows, k).axis);
     }
     distances
+}
+
+// The lowest-numbered origin of the built-in table with the least haversine, without the checks of the call. That the table is sound,
+// which the method asks of any, is known of it.
+#[tactic(auto, using(origin::proofs::Sizes::origins_sound))]
+pub fn find_nearest_origin(point: Spherical) -> u8
+    requires { (outside point.theta.0 ≡ false) × (outside point.phi.0 ≡ false) }
+    ensures { result ≡ nearest_origin ieee ORIGINS point }
+{
+    BuiltIn.find_nearest_origin(point)
 }
