@@ -1,4 +1,4 @@
--- A C function with a table, by what `rows` gives of it: the rows, which are then the table, or 20. Assumes nothing.
+-- A C function with a table, by what `rows_or_20` gives of it: the rows, which are then the table, or 20. Assumes nothing.
 --     rows_fit, rows_are, rows_off, rows_20   what either says of the table
 --     with_rows, no_rows                      what a call with the table comes to
 --     with_rows_on, no_rows_on                the same of a call on a set

@@ -6,7 +6,7 @@ ghost use Rattle.table_file.specs.TableFile.{table_given, file_given};
 ghost use Rattle.border.specs.Tables.{with_table};
 ghost use Rattle.exports.specs.Files.{whole};
 
-use border::rows::rows;
+use border::rows::rows_or_20;
 
 // Load: the 84 numbers of a table file go to table.
 #[unsafe(no_mangle)]
@@ -22,7 +22,7 @@ pub extern "C" fn a5_table_load(bytes: &[u8], table: &mut [f64; 84]) -> u8
 pub extern "C" fn a5_table_save(table: &[f64], bytes: &mut [u8]) -> u8
     ensures { Returns (with_table (λ t. file_given ieee t (length bytes.old)) table.now) result (contents bytes) whole }
 {
-    let rows = match rows(table) {
+    let rows = match rows_or_20(table) {
         Ok(rows) => rows,
         Err(refusal) => return refusal.number(),
     };

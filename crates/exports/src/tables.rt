@@ -13,7 +13,7 @@ ghost use Rattle.border.specs.Tables.{with_table, with_table_on};
 
 use border::answers::put;
 use border::arguments;
-use border::rows::rows;
+use border::rows::rows_or_20;
 
 // Open with a table: writes the frame and fills both stores with 0.0.
 #[unsafe(no_mangle)]
@@ -26,7 +26,7 @@ pub extern "C" fn a5_open_with(
     ensures answer { result ≡ status (with_table_on (open_on ieee) table.now (lent_mut frame face_store sphere_store).entry).answer }
     ensures left { Becomes (lent_mut frame face_store sphere_store) (λ s. (with_table_on (open_on ieee) table.now s).set) }
 {
-    let rows = match rows(table) {
+    let rows = match rows_or_20(table) {
         Ok(rows) => rows,
         Err(refusal) => return refusal.number(),
     };
@@ -39,7 +39,7 @@ pub extern "C" fn a5_open_with(
 pub extern "C" fn a5_nearest_with(table: &[f64], theta: f64, phi: f64, id: &mut u8) -> u8
     ensures { Returns (with_table (λ t. nearest_given ieee t (spherical theta phi)) table.now) result (contents id) Calls·id }
 {
-    let rows = match rows(table) {
+    let rows = match rows_or_20(table) {
         Ok(rows) => rows,
         Err(refusal) => return refusal.number(),
     };

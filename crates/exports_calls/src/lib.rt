@@ -15,7 +15,7 @@ ghost use Rattle.border.specs.Tables.{with_table_on};
 
 use border::answers::put;
 use border::arguments;
-use border::rows::rows;
+use border::rows::rows_or_20;
 use coordinates::coords::Face;
 use coordinates::vec2::Vec2;
 use nearest::origins::{BuiltIn, Origins};
@@ -94,7 +94,7 @@ pub extern "C" fn a5_forward_with(
     ensures { ReturnsOn (lent frame face_store sphere_store) result (contents to) point
         (with_table_on (λ t s. forward_on ieee t s (spherical theta phi) origin) table.now) }
 {
-    let rows = match rows(table) {
+    let rows = match rows_or_20(table) {
         Ok(rows) => rows,
         Err(refusal) => return refusal.number(),
     };
@@ -143,7 +143,7 @@ pub extern "C" fn a5_inverse_with(
     ensures { ReturnsOn (lent frame face_store sphere_store) result (contents to) angles
         (with_table_on (λ t s. inverse_on ieee t s (face x y) origin) table.now) }
 {
-    let rows = match rows(table) {
+    let rows = match rows_or_20(table) {
         Ok(rows) => rows,
         Err(refusal) => return refusal.number(),
     };

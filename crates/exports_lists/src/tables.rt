@@ -5,7 +5,7 @@ ghost use Rattle.set.specs.Outcome.{lent};
 ghost use Rattle.exports_lists.specs.Lists.{returned, in_c, list_with};
 
 use crate::call::listed;
-use border::rows::rows;
+use border::rows::rows_or_20;
 use coordinates::lonlat::LonLat;
 use place_list::PlaceResult;
 use set::set::Set;
@@ -23,7 +23,7 @@ pub extern "C" fn a5_place_list_with(
     ensures { returned result results.new (lent frame face_store sphere_store).exit
         ≡ in_c (list_with ieee table.now (lent frame face_store sphere_store).entry positions.now results.old) }
 {
-    let rows = match rows(table) {
+    let rows = match rows_or_20(table) {
         Ok(rows) => rows,
         Err(refusal) => return refusal.number(),
     };

@@ -10,7 +10,7 @@ ghost use Rattle.strike_records.specs.Writes.{lent_bytes};
 ghost use Rattle.panel.specs.Step.{step_on};
 ghost use Rattle.exports_panel.specs.Panel.{StepsInC, step_with};
 
-use border::rows::rows;
+use border::rows::rows_or_20;
 use nearest::origins::BuiltIn;
 use set::set::Set;
 
@@ -44,7 +44,7 @@ pub extern "C" fn a5_panel_step_with(
 ) -> u8
     ensures { StepsInC (lent frame face_store sphere_store) (lent_bytes block) result (step_with ieee table.now) }
 {
-    let rows = match rows(table) {
+    let rows = match rows_or_20(table) {
         Ok(rows) => rows,
         Err(refusal) => return refusal.number(),
     };

@@ -15,7 +15,7 @@ ghost use Rattle.border.specs.Tables.{with_table_on};
 
 use border::answers::{put, put_place};
 use border::arguments;
-use border::rows::rows;
+use border::rows::rows_or_20;
 use coordinates::coords::Face;
 use coordinates::vec2::Vec2;
 use nearest::origins::{BuiltIn, Origins};
@@ -94,7 +94,7 @@ pub extern "C" fn a5_place_with(
     ensures { ReturnsOn (lent frame face_store sphere_store) result (contents_of id to) id_and_point
         (with_table_on (λ t s. place_on ieee t s (lon_lat longitude latitude)) table.now) }
 {
-    let rows = match rows(table) {
+    let rows = match rows_or_20(table) {
         Ok(rows) => rows,
         Err(refusal) => return refusal.number(),
     };
@@ -143,7 +143,7 @@ pub extern "C" fn a5_unplace_with(
     ensures { ReturnsOn (lent frame face_store sphere_store) result (contents to) degrees
         (with_table_on (λ t s. unplace_on ieee t s (face x y) origin) table.now) }
 {
-    let rows = match rows(table) {
+    let rows = match rows_or_20(table) {
         Ok(rows) => rows,
         Err(refusal) => return refusal.number(),
     };

@@ -12,7 +12,7 @@ ghost use Rattle.set.specs.Lent.{SameBuffers, held};
 ghost use Rattle.region_work.specs.Region.{region_on};
 ghost use Rattle.region_border.specs.Regions.{returned, in_c, region_with};
 
-use border::rows::rows;
+use border::rows::rows_or_20;
 use caption_box::CaptionBox;
 use coordinates::coords::Face;
 use coordinates::lonlat::LonLat;
@@ -77,7 +77,7 @@ pub extern "C" fn a5_region_with(
         ≡ in_c (region_with ieee table.now (lent frame face_store sphere_store).entry positions.now points.old)
         origin.old caption.old }
 {
-    let rows = match rows(table) {
+    let rows = match rows_or_20(table) {
         Ok(rows) => rows,
         Err(refusal) => return refusal.number(),
     };

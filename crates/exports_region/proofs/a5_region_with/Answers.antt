@@ -14,7 +14,7 @@ pub returns : goal.returns
 returns c =
     let a = c.args in
     let n = c.outlined.new in
-    let rows = ap given (sym c.in-Ok.is) ∙ c.rows.ensures in
+    let rows = ap given (sym c.in-Ok.is) ∙ c.rows_or_20.ensures in
     let table = with_rows ieee a.table.now _ _ _ _ rows in
     let left : set_of a.frame.now c.face_store-1.given.0 c.sphere_store-1.given.0 ≡ held n.set = search rules in
     ap (λ (s : Set). returned c.outlined.result n.points n.origin n.caption s) left

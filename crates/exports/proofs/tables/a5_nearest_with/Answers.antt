@@ -12,6 +12,6 @@ use Rattle.exports.proofs.tables.a5_nearest_with.Goals as goal
 pub returns : goal.returns
 returns c =
     let a = c.args in
-    let rows = ap Answer·given (sym c.in-Ok.is) ∙ c.rows.ensures in
+    let rows = ap Answer·given (sym c.in-Ok.is) ∙ c.rows_or_20.ensures in
     let table = with_rows (λ (t : List Float). nearest_given ieee t (spherical a.theta a.phi)) _ _ rows in
     rw (table, ← c.spherical.ensures, ← c.nearest-nearest.ensures) c.put.ensures

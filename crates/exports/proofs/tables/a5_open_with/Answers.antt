@@ -10,11 +10,11 @@ use Rattle.exports.proofs.tables.a5_open_with.Goals as goal
 
 pub returns-clause-left : goal.returns-clause-left
 returns-clause-left c =
-    let rows = ap given (sym c.in-Ok.is) ∙ c.rows.ensures in
+    let rows = ap given (sym c.in-Ok.is) ∙ c.rows_or_20.ensures in
     c.open-opened.ensures.left ∙ sym (ap (λ (o : Outcome (Unit {0})). o.set) (with_rows_on (open_on ieee) _ _ _ rows))
 
 pub returns-clause-answer : goal.returns-clause-answer
 returns-clause-answer c =
-    let rows = ap given (sym c.in-Ok.is) ∙ c.rows.ensures in
+    let rows = ap given (sym c.in-Ok.is) ∙ c.rows_or_20.ensures in
     let opened = c.open-opened.ensures.answer ∙ sym (ap (λ (o : Outcome (Unit {0})). o.answer) (with_rows_on (open_on ieee) _ _ _ rows)) in
     c.status.ensures ∙ ap status opened
