@@ -55,7 +55,7 @@ module _ (A : Arith) (table : List Float) where
   ahead s p ps r rs zero = refl
   ahead s p ps r rs (suc i) = ap (turned (p ∷ ps) (suc i)) (ahead s p ps r rs i)
 
-  at_end : (s : Set) (ps : List LonLat) (rs : List PlaceResult) → length ps ≡ length rs → at_turn s ps rs (length ps) ≡ placed_in_turn A table s ps
+  pub at_end : (s : Set) (ps : List LonLat) (rs : List PlaceResult) → length ps ≡ length rs → at_turn s ps rs (length ps) ≡ placed_in_turn A table s ps
   at_end s [] [] l = refl
   at_end s [] (r ∷ rs) l = absurd (not_none (sym l))
   at_end s (p ∷ ps) [] l = absurd (not_none l)

@@ -6,7 +6,7 @@ use Rattle.set.specs.Set.{Set}
 use Rattle.histories.specs.Lists.{Standing, Call, step, run}
 use Rattle.histories.specs.EveryList.{opened, left}
 
-run_then : (s : Standing) (cs : List Call) (c : Call) → run s (cs ++ c ∷ []) ≡ step (run s cs) c
+pub run_then : (s : Standing) (cs : List Call) (c : Call) → run s (cs ++ c ∷ []) ≡ step (run s cs) c
 run_then s [] c = refl
 run_then s (d ∷ cs) c = run_then (step s d) cs c
 

@@ -26,7 +26,7 @@ use Rattle.strike_session.proofs.Arrived.{put_start}
 use Rattle.strike_session.proofs.Whole.{whole_session}
 
 -- what was written of a line for which there is room
-first_line : (written : ℕ) (before out line : List ℕ) → LINE ≤ length before → WritesIfRoom (change before out) line written → take written out ≡ line
+pub first_line : (written : ℕ) (before out line : List ℕ) → LINE ≤ length before → WritesIfRoom (change before out) line written → take written out ≡ line
 first_line written before out line roomy w =
     let fits : fitting (length before) line ≡ line = with_room (length before) line roomy in
     let wrote = writes_as w.line_is line fits in
