@@ -4,7 +4,7 @@
 // the list is malformed.
 #![tactic(auto)]
 
-ghost use Rattle.std.specs.Prelude.{◌≡◌, ◌≤◌, length};
+ghost use Rattle.std.specs.Prelude.{◌≡◌, ◌≤◌, length, IfOk, IfSome};
 ghost use Rattle.set.specs.Lent.{SameBuffers};
 
 use replay::record::read_full;
@@ -27,20 +27,27 @@ fn malformed<W: Write>(to: &mut W) -> io::Result<()> {
     writeln!(to, "malformed list")
 }
 
-// Reads a part: its length in two bytes, and so many bytes. None where the list has ended, or is malformed, which is then said.
+// Reads a part: its length in two bytes, and so many bytes, no more than there is room for. None where the list has ended, or is malformed,
+// which is then said; of a part that is too long no more than its length is read.
 fn read_part<R: Read, W: Write>(
     alloc: Global,
     from: &mut R,
     to: &mut W,
-) -> io::Result<Option<Vec<u8>>> {
+) -> io::Result<Option<Vec<u8>>>
+    ensures { IfOk result (λ part. IfSome part (λ bytes. length bytes.items ≤ 4096)) }
+{
     let mut size = [0u8; 2];
     let read = read_full(from, &mut size)?;
     if read == 0 {
         return Ok(None);
     }
     let count = usize::from(u16::from_be_bytes(size));
-    let mut part = vec![in alloc; 0u8; count.min(ROOM)]?;
-    if read < size.len() || read_full(from, part.as_mut_slice())? < count {
+    if read < size.len() || count > ROOM {
+        malformed(to)?;
+        return Ok(None);
+    }
+    let mut part = vec![in alloc; 0u8; count]?;
+    if read_full(from, part.as_mut_slice())? < count {
         malformed(to)?;
         return Ok(None);
     }
@@ -118,23 +125,25 @@ fn agrees(input: &[u8], stored: &[u8], more: usize) -> bool {
     &lines[..written] == stored
 }
 
-// How many of a session's four runs differ; none where there is no session more.
+// How many of a session's four runs differ; none where there is no session more. Both parts are read, also where the first is not there, and
+// what is malformed is said of each.
 fn replay_next<R: Read, W: Write>(
     alloc: Global,
     from: &mut R,
     to: &mut W,
     number: u32,
-) -> io::Result<Option<u64>> {
-    let Some(input) = read_part(alloc, from, to)? else {
-        return Ok(None);
-    };
-    let Some(stored) = read_part(alloc, from, to)? else {
+) -> io::Result<Option<u64>>
+    ensures { IfOk result (λ session. IfSome session (λ differ. differ ≤ 4)) }
+{
+    let input = read_part(alloc, from, to)?;
+    let stored = read_part(alloc, from, to)?;
+    let (Some(input), Some(stored)) = (input, stored) else {
         return Ok(None);
     };
     let mut differ: u64 = 0;
     for more in MORE {
         if !agrees(&input, &stored, more) {
-            differ = differ.wrapping_add(1);
+            differ += 1;
             writeln!(
                 to,
                 "session {number} differs in pieces of 1 byte and {more} more"
