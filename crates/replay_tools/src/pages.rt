@@ -1,6 +1,5 @@
 // The list of windows and their pages: each is printed from its counts, and what the call gives is compared, and every byte of the room
 // that the page is a part of. How many were compared and how many differ is written, each that differs, and whether the list is malformed.
-use answer::Refusal;
 use replay::record::read_full;
 use replay_tally::Count;
 use replay_tally::lines::Replayed;
@@ -22,10 +21,14 @@ fn counts_of(head: &[u8; HEAD]) -> [u32; 12] {
     counts
 }
 
-// Prints on the first bytes of the room, as many as the record says. None where the room has fewer.
-fn print(head: &[u8; HEAD], room: &mut [u8; ROOM]) -> Option<Result<(), Refusal>> {
+// Prints on the first bytes of the room, as many as the record says, and answers the status. Where the room has fewer it is 255, which no
+// print gives, and nothing is printed.
+fn print(head: &[u8; HEAD], room: &mut [u8; ROOM]) -> u8 {
     let lent = usize::from(u16::from_be_bytes([head[48], head[49]]));
-    Some(sheet::print(counts_of(head), room.get_mut(..lent)?))
+    match room.get_mut(..lent) {
+        Some(page) => answer::status(sheet::print(counts_of(head), page)),
+        None => 255,
+    }
 }
 
 // Prints the next record, if there is one, and compares.
@@ -43,7 +46,7 @@ fn replay_next<R: Read>(from: &mut R) -> io::Result<Replayed> {
     let given = print(&head, &mut room);
     Ok(Replayed::Compared {
         line: 1,
-        agrees: given.is_some_and(|given| answer::status(given) == head[50]) && room == wanted,
+        agrees: given == head[50] && room == wanted,
     })
 }
 
