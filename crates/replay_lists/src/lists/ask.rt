@@ -4,12 +4,14 @@ use list_calls::place_list;
 use nearest::origins::{BuiltIn, Origins};
 use replay::outcome::{Outcome, done, told};
 use replay::record::Record;
+use replay_lent::lists::BLANK;
 use replay_positions::{OPEN, TABLES_AT, WITH, opened};
 use replay_sets::asked::lengths;
 use replay_sets::noted::Set;
 use replay_sets::tables::table;
 
-// A list has how many positions and results are lent, and the three lengths. Every result holds the same before.
+// A list has how many positions and results are lent, and the three lengths. Every result holds the same before; where there are not so
+// many, they stay as the last list left them.
 fn placed<O: Origins>(
     origins: O,
     set: &mut Set,
@@ -17,12 +19,13 @@ fn placed<O: Origins>(
     record: &Record,
 ) -> Option<Outcome> {
     let mut lent = set.lend_set(lengths(record, 2))?;
-    lists.clear();
     let positions = lists.positions.as_slice().get(..record.word(0) as usize)?;
-    let results = lists
+    let (results, others) = lists
         .results
         .as_mut_slice()
-        .get_mut(..record.word(1) as usize)?;
+        .split_at_mut_checked(record.word(1) as usize)?;
+    results.fill(BLANK);
+    others.fill(BLANK);
     Some(told(place_list(origins, &mut lent, positions, results), done))
 }
 

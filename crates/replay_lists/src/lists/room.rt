@@ -5,7 +5,7 @@ use coordinates::lonlat::LonLat;
 use place_list::PlaceResult;
 use replay::outcome::Outcome;
 use replay::record::Record;
-use replay_lent::lists::{BLANK, MOST};
+use replay_lent::lists::MOST;
 use std::alloc::{AllocError, Global};
 
 // A call is lent the first of each.
@@ -16,21 +16,22 @@ pub struct Lists {
 }
 
 impl Lists {
-    // Room for the most positions and results of a list, on the heap.
+    // Room for the most positions and results of a list, on the heap: zeros before the first list.
     pub fn new(alloc: Global) -> Result<Lists, AllocError> {
         let origin = LonLat {
             longitude: Degrees(0.0),
             latitude: Degrees(0.0),
         };
+        let nothing = PlaceResult {
+            refusal: 0,
+            origin: 0,
+            x: 0.0,
+            y: 0.0,
+        };
         Ok(Lists {
             positions: vec![in alloc; origin; MOST]?,
-            results: vec![in alloc; BLANK; MOST]?,
+            results: vec![in alloc; nothing; MOST]?,
         })
-    }
-
-    // Every result as it is before a call.
-    pub fn clear(&mut self) {
-        self.results.fill(BLANK);
     }
 
     // All four fields of a result, also where it is refused.

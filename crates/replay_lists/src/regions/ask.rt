@@ -4,13 +4,14 @@ use list_calls::region::region;
 use nearest::origins::{BuiltIn, Origins};
 use replay::outcome::{Outcome, told, whole};
 use replay::record::Record;
+use replay_lent::regions::BLANK;
 use replay_positions::{OPEN, TABLES_AT, WITH, opened};
 use replay_sets::asked::lengths;
 use replay_sets::noted::Set;
 use replay_sets::tables::table;
 
-// A region has how many positions and points are lent, and the three lengths. Every point holds the same before. An answer's
-// origin is told, and its box is left beside the points.
+// A region has how many positions and points are lent, and the three lengths. Every point holds the same before; where there are not so
+// many, they stay as the last region left them. An answer's origin is told, and its box is left beside the points.
 fn outlined<O: Origins>(
     origins: O,
     set: &mut Set,
@@ -18,12 +19,13 @@ fn outlined<O: Origins>(
     record: &Record,
 ) -> Option<Outcome> {
     let mut lent = set.lend_set(lengths(record, 2))?;
-    outline.clear();
     let positions = outline.positions.as_slice().get(..record.word(0) as usize)?;
-    let points = outline
+    let (points, others) = outline
         .points
         .as_mut_slice()
-        .get_mut(..record.word(1) as usize)?;
+        .split_at_mut_checked(record.word(1) as usize)?;
+    points.fill(BLANK);
+    others.fill(BLANK);
     let given = region(origins, &mut lent, positions, points);
     if let Ok(answer) = given {
         outline.bounds = answer.bounds;

@@ -4,10 +4,11 @@ use caption_box::CaptionBox;
 use coordinates::base::Degrees;
 use coordinates::coords::Face;
 use coordinates::lonlat::LonLat;
+use coordinates::vec2::Vec2;
 use replay::outcome::{Outcome, answered};
 use replay::record::Record;
 use replay_arguments::answers;
-use replay_lent::regions::{BLANK, MOST};
+use replay_lent::regions::MOST;
 use std::alloc::{AllocError, Global};
 
 // A call is lent the first positions and the first points. The box is that of the last region that was answered.
@@ -19,22 +20,22 @@ pub struct Outline {
 }
 
 impl Outline {
-    // Room for the most positions and points of a region, on the heap.
+    // Room for the most positions and points of a region, on the heap: zeros before the first region, and in the box, which is then no
+    // empty one.
     pub fn new(alloc: Global) -> Result<Outline, AllocError> {
         let origin = LonLat {
             longitude: Degrees(0.0),
             latitude: Degrees(0.0),
         };
+        let point = Face(Vec2 { x: 0.0, y: 0.0 });
         Ok(Outline {
             positions: vec![in alloc; origin; MOST]?,
-            points: vec![in alloc; BLANK; MOST]?,
-            bounds: CaptionBox::new(),
+            points: vec![in alloc; point; MOST]?,
+            bounds: CaptionBox {
+                empty: false,
+                ..CaptionBox::new()
+            },
         })
-    }
-
-    // Every point as it is before a call.
-    pub fn clear(&mut self) {
-        self.points.fill(BLANK);
     }
 
     // A point, also one that was not written.
