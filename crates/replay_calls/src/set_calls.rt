@@ -74,7 +74,7 @@ pub fn called<O: Origins>(
         (take (word_at «record».now.words 2) set.old.sphere)))) }
 {
     if record.head.number == OPEN && record.head.status == 0 {
-        set.opened(frame_at?)?;
+        set.opened(frame_at)?;
     }
     made(Asked::of(record), origins, set, record)
 }

@@ -34,7 +34,7 @@ pub const NOTES: usize = TABLES_AT + TABLES;
 pub fn opened(set: &mut Set, record: &Record) -> Option<Outcome>
     ensures { IfSome result (λ outcome. outcome ≡ open_outcome (first_in «record».now set.old.frame set.old.face set.old.sphere)) }
 {
-    set.opened(DEFINED_AT)?;
+    set.opened(Some(DEFINED_AT))?;
     let Lent {
         frame,
         face,

@@ -101,8 +101,8 @@ impl Set {
     // How many numbers of the set are not as noted, in the first buffer where one is: none only where all are.
     pub fn wrong(&self) -> usize
         ensures frame { result ≡ 0 → AlikeFrom self.now.frame self.now.notes.items 0 }
-        ensures face { result ≡ 0 → AlikeFrom self.now.face self.now.notes.items FACE_AT }
-        ensures sphere { result ≡ 0 → AlikeFrom self.now.sphere self.now.notes.items SPHERE_AT }
+        ensures face { result ≡ 0 → AlikeFrom self.now.face self.now.notes.items 187 }
+        ensures sphere { result ≡ 0 → AlikeFrom self.now.sphere self.now.notes.items 398 }
     {
         let in_frame = unlike(&self.frame, &self.notes, 0);
         if in_frame > 0 {
@@ -149,15 +149,17 @@ impl Set {
         fill(&mut self.notes, SPHERE_AT, SPHERE_STORE, z)
     }
 
-    // What open should leave: the frame that stands from a place on, and zeros in both stores. What lies behind stays.
-    pub fn opened(&mut self, frame_at: usize) -> Option<()>
+    // What open should leave: the frame that stands from a place on, and zeros in both stores. What lies behind stays. The stores are
+    // noted also where no frame is.
+    pub fn opened(&mut self, frame_at: Option<usize>) -> Option<()>
         ensures frame { self.new.frame ≡ self.old.frame }
         ensures face { self.new.face ≡ self.old.face }
         ensures sphere { self.new.sphere ≡ self.old.sphere }
     {
-        copy(&mut self.notes, frame_at, 0, FRAME - 1)?;
-        fill(&mut self.notes, FACE_AT, FACE_STORE - 1, 0.0)?;
-        fill(&mut self.notes, SPHERE_AT, SPHERE_STORE - 1, 0.0)
+        let face = fill(&mut self.notes, FACE_AT, FACE_STORE - 1, 0.0);
+        let sphere = fill(&mut self.notes, SPHERE_AT, SPHERE_STORE - 1, 0.0);
+        copy(&mut self.notes, frame_at?, 0, FRAME - 1)?;
+        face.and(sphere)
     }
 
     // A slot that should then hold the triangle defined for it, of the sphere with b × c; the number after the last is none.
@@ -178,15 +180,17 @@ impl Set {
         )
     }
 
-    // The face slots that the next call should write as they are defined: two of them.
+    // The face slots that the next call should write as they are defined: two of them, each also where the other is not there.
     pub fn keep_faces(&mut self, record: &Record) -> Option<()> {
-        self.keep_slot(FACES, record.word(0))?;
-        self.keep_slot(FACES, record.word(1))
+        let first = self.keep_slot(FACES, record.word(0));
+        let second = self.keep_slot(FACES, record.word(1));
+        first.and(second)
     }
 
     // The same, and a sphere slot.
     pub fn keep(&mut self, record: &Record) -> Option<()> {
-        self.keep_faces(record)?;
-        self.keep_slot(SPHERES, record.word(2))
+        let faces = self.keep_faces(record);
+        let sphere = self.keep_slot(SPHERES, record.word(2));
+        faces.and(sphere)
     }
 }
