@@ -1,10 +1,14 @@
 // Where a call is counted.
+ghost use Rattle.std.specs.Prelude.{◌<◌};
+
 use replay::outcome::Outcome;
 use replay_call::Call;
 use replay_tally::Tally;
 
 // Where a call is counted: the names stand in this order. A refused one is counted seven places on.
-fn place_of(call: Call) -> u8 {
+fn place_of(call: Call) -> u8
+    ensures { result < 22 }
+{
     match call {
         Call::Forward(_, _) => 5,
         Call::Inverse(_, _) => 6,

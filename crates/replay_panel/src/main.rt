@@ -4,7 +4,7 @@
 // status, names each record that differs, and says so where the list is malformed.
 #![tactic(auto)]
 
-ghost use Rattle.std.specs.Prelude.{◌<◌};
+ghost use Rattle.std.specs.Prelude.{◌<◌, ◌≤◌};
 
 use answer::Refusal;
 use answer::big_endian::value;
@@ -68,6 +68,7 @@ fn read<R: Read>(from: &mut R, tables: &mut [f64]) -> io::Result<()> {
 // How many numbers of a buffer are lent: all, or where its bit is set all but the last.
 fn lent(count: usize, short: u8, bit: u8) -> u64
     requires { 0 < count }
+    ensures { result ≤ count }
 {
     let numbers = if short & bit == 0 { count } else { count - 1 };
     numbers as u64
@@ -136,7 +137,9 @@ fn agrees(set: &mut Set, record: [u8; SIZE]) -> bool {
 }
 
 // The line of what was asked and its stored status: carried out, and then refused, in the order of main's list.
-fn line(asked: Asked, due: u8) -> usize {
+fn line(asked: Asked, due: u8) -> usize
+    ensures { result < 32 }
+{
     let carried_out = match asked {
         Asked::Step => 1,
         Asked::StepWith => 3,

@@ -1,5 +1,7 @@
 // The list of table files: each is loaded into a table that holds 0.25 in every place, and the status and the bits of all 84 numbers are
 // compared: a refused file must leave the table. A table that is loaded is saved again, and must give the same bytes.
+ghost use Rattle.std.specs.Prelude.{◌<◌};
+
 use answer::bits;
 use replay::function::Function;
 use replay::record::read_full;
@@ -45,7 +47,9 @@ fn agrees(file: &[u8], status: u8, stored: &[u8; 672]) -> bool {
 
 // The line of a status, by its number as the list stores it: loaded, refused with 20, 21, 22, in the order of the list below. A table of numbers
 // and names would have to be searched, and have no line for a status that is not in it: a match is plainer.
-fn line(status: u8) -> usize {
+fn line(status: u8) -> usize
+    ensures { result < 32 }
+{
     match status {
         0 => 1,
         20 => 2,

@@ -1,4 +1,6 @@
 // The list of turns: each is handed out, and the status and all places for grants are compared, also those that were not lent.
+ghost use Rattle.std.specs.Prelude.{◌<◌};
+
 use fair_turns::fair_turns;
 use replay::function::Function;
 use replay::record::read_full;
@@ -41,7 +43,9 @@ fn agrees(record: &[u8; SIZE]) -> bool {
 
 // The line of a status, by its number as the list stores it: answered, refused with 24, 25, in the order of the list below. A match, as in
 // `files`.
-fn line(status: u8) -> usize {
+fn line(status: u8) -> usize
+    ensures { result < 32 }
+{
     match status {
         0 => 1,
         24 => 2,

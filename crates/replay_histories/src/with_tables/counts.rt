@@ -1,11 +1,16 @@
 // Where a call is counted.
+ghost use Rattle.std.specs.Prelude.{◌≡◌, ◌<◌, false};
+
 use replay::outcome::Outcome;
 use replay_call::Call;
 use replay_tally::Tally;
 
 // The names stand in this order. A call is counted there refused or not; but a refused open is counted one place on, and so is a
 // refused companion of show, which takes no table, nor does show.
-fn place_of(call: Call, refused: bool) -> usize {
+fn place_of(call: Call, refused: bool) -> usize
+    ensures not_refused { refused ≡ false → result < 13 }
+    ensures within { result < 14 }
+{
     match call {
         Call::Open if refused => 3,
         Call::Open => 2,
