@@ -11,7 +11,7 @@ use replay_sets::noted::Set;
 use replay_sets::tables::table;
 
 // A list has how many positions and results are lent, and the three lengths. Every result holds the same before; where there are not so
-// many, they stay as the last list left them.
+// many, or a buffer has fewer numbers, they stay as they were.
 fn placed<O: Origins>(
     origins: O,
     set: &mut Set,

@@ -11,7 +11,7 @@ use replay_sets::noted::Set;
 use replay_sets::tables::table;
 
 // A region has how many positions and points are lent, and the three lengths. Every point holds the same before; where there are not so
-// many, they stay as the last region left them. An answer's origin is told, and its box is left beside the points.
+// many, or a buffer has fewer numbers, they stay as they were. An answer's origin is told, and its box is left beside the points.
 fn outlined<O: Origins>(
     origins: O,
     set: &mut Set,
